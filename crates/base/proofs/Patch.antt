@@ -1,0 +1,35 @@
+-- Bytes written into a list: a further stretch behind the first is one stretch, and the length stays.
+use mathlib.Core.Path.{_≡_, refl, sym, _∙_, ap}
+use mathlib.Core.List.{List, [], _∷_, _++_, append-assoc, append-nil}
+use Prim.Native.Nat.{ℕ, zero, suc, _+_, _-_, _*_, _<_, _≤_}
+use native.Mathlib.Nat.{add-zero, add-assoc}
+use native.Mathlib.Omega.{arith}
+use lib.ListN.{length, getD, take, drop, set, length-append, length-take, length-drop, take-append-drop, length-set}
+use lib.Seq.{length-take-le, take-append-add, drop-append-add, drop-drop, sets, sets-eq, take-at, drop-at}
+use Rattle.base.specs.Lists.{patch}
+
+pub patch-none : (xs : List ℕ) (i : ℕ) → patch xs i [] ≡ xs
+unfolding patch
+patch-none xs i = rw (add-zero i, append-nil (take i xs)) (take-append-drop i xs)
+
+pub patch-length : (xs : List ℕ) (i : ℕ) (bs : List ℕ) → i + length bs ≤ length xs → length (patch xs i bs) ≡ length xs
+unfolding patch
+patch-length xs i bs h =
+    rw (length-append (take i xs ++ bs) (drop (i + length bs) xs), length-append (take i xs) bs, length-take-le i xs (omega arith), length-drop (i + length bs) xs)
+    (omega arith)
+
+-- what stands in front of a second stretch is the first with what was in front of it
+front : (xs : List ℕ) (i : ℕ) (bs : List ℕ) → i + length bs ≤ length xs → length (take i xs ++ bs) ≡ i + length bs
+front xs i bs h = rw (length-append (take i xs) bs, length-take-le i xs (omega arith))
+
+pub patch-patch : (xs : List ℕ) (i j : ℕ) (bs cs : List ℕ) → i + length bs ≤ length xs → j ≡ i + length bs → patch (patch xs i bs) j cs ≡ patch xs i (bs ++ cs)
+unfolding patch
+patch-patch xs i j bs cs h e =
+    let l : length (take i xs ++ bs) ≡ j = front xs i bs h ∙ sym e in
+    rw (take-at (take i xs ++ bs) (drop (i + length bs) xs) j l, ← l, drop-append-add (take i xs ++ bs) (drop (i + length bs) xs) (length cs), drop-drop (length cs) (i + length bs) xs, length-append bs cs)
+    (rw (append-assoc (take i xs) bs cs, add-assoc i (length bs) (length cs)))
+
+-- stores one behind the other
+pub sets-patch : (xs : List ℕ) (i : ℕ) (bs : List ℕ) → i + length bs ≤ length xs → sets xs i bs ≡ patch xs i bs
+unfolding patch
+sets-patch xs i bs h = sets-eq bs xs i h

@@ -1,0 +1,37 @@
+-- Checks, numbered and in order: each is good or names its first bad entry, and the first that is not good answers.
+use mathlib.Core.Path.{_≡_}
+use mathlib.Core.Bool.{Bool, true, false, cond}
+use mathlib.Core.List.{List, [], _∷_}
+use Prim.Native.Nat.{ℕ, zero, suc}
+use Rattle.base.specs.declared.Check.{Check}
+use Rattle.base.specs.declared.Check.the-variants.{Good, Bad}
+use Rattle.base.specs.declared.Verdict.{Verdict}
+
+-- the first of the d entries from i on that is not good
+unfoldable pub firstBad : (ℕ → Bool) → ℕ → ℕ → Check
+firstBad good zero i = Good
+firstBad good (suc d) i = cond (good i) (firstBad good d (suc i)) (Bad i)
+
+-- the lowest of n entries, counted from 0, that is not good
+abbrev pub lowest : (ℕ → Bool) → ℕ → Check
+lowest good n = firstBad good n 0
+
+-- a check that has no entries: its place is 0
+abbrev pub whole : Bool → Check
+whole good = cond good Good (Bad 0)
+
+abbrev pub answered : ℕ → ℕ → Verdict
+answered n p = record { answer = n; place = p }
+
+-- 0, done, and its place
+abbrev pub done : Verdict
+done = answered 0 0
+
+abbrev pub orElse : ℕ → Check → Verdict → Verdict
+orElse n Good next = next
+orElse n (Bad p) next = answered n p
+
+-- the first check that is not good, by its number and its place; done where all are good
+unfoldable pub verdict : List (ℕ × Check) → Verdict
+verdict [] = done
+verdict ((n, c) ∷ cs) = orElse n c (verdict cs)
