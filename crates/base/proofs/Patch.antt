@@ -5,7 +5,7 @@ use Prim.Native.Nat.{ℕ, zero, suc, _+_, _-_, _*_, _<_, _≤_}
 use native.Mathlib.Nat.{add-zero, add-assoc}
 use native.Mathlib.Omega.{arith}
 use lib.ListN.{length, getD, take, drop, set, length-append, length-take, length-drop, take-append-drop, length-set}
-use lib.Seq.{length-take-le, take-append-add, drop-append-add, drop-drop, sets, sets-eq, take-at, drop-at}
+use lib.Seq.{length-take-le, take-append-add, drop-append-add, drop-drop, sets, sets-eq, take-at, drop-at, paste, take-length}
 use Rattle.base.specs.Lists.{patch}
 
 pub patch-none : (xs : List ℕ) (i : ℕ) → patch xs i [] ≡ xs
@@ -33,3 +33,8 @@ patch-patch xs i j bs cs h e =
 pub sets-patch : (xs : List ℕ) (i : ℕ) (bs : List ℕ) → i + length bs ≤ length xs → sets xs i bs ≡ patch xs i bs
 unfolding patch
 sets-patch xs i bs h = sets-eq bs xs i h
+
+-- a copy, element by element, that has come to its end
+pub paste-patch : (xs : List ℕ) (i : ℕ) (bs : List ℕ) (n : ℕ) → n ≡ length bs → paste xs i bs n ≡ patch xs i bs
+unfolding patch
+paste-patch xs i bs n e = rw (e, take-length bs)

@@ -1,11 +1,16 @@
 -- Checks, numbered and in order: each is good or names its first bad entry, and the first that is not good answers.
 use mathlib.Core.Path.{_≡_}
-use mathlib.Core.Bool.{Bool, true, false, cond}
+use mathlib.Core.Bool.{Bool, true, false, cond, _&&_}
 use mathlib.Core.List.{List, [], _∷_}
 use Prim.Native.Nat.{ℕ, zero, suc}
 use Rattle.base.specs.declared.Check.{Check}
 use Rattle.base.specs.declared.Check.the-variants.{Good, Bad}
 use Rattle.base.specs.declared.Verdict.{Verdict}
+
+-- each of n entries, counted from 0, is good
+abbrev pub every : (ℕ → Bool) → ℕ → Bool
+every good zero = true
+every good (suc n) = good n && every good n
 
 -- the first of the d entries from i on that is not good
 unfoldable pub firstBad : (ℕ → Bool) → ℕ → ℕ → Check

@@ -3,7 +3,7 @@ use mathlib.Core.Path.{_≡_, refl}
 use mathlib.Core.Bool.{Bool, cond}
 use Prim.Native.Nat.{ℕ, _-_, _<_}
 use lib.Dec.{T, eqb, ltb, eqb→eq}
-use Rattle.base.proofs.Tests.{allBelow, below}
+use Rattle.base.proofs.Tests.{below}
 use Rattle.codes.specs.Rows.{rows, place, placeOf}
 
 abbrev pub byRange : ℕ → ℕ

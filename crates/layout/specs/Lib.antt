@@ -1,0 +1,3 @@
+pub mod Trailer
+pub mod Labels
+pub mod Write
