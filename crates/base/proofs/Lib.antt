@@ -5,3 +5,4 @@ pub mod Patch
 pub mod Bytes
 pub mod Tests
 pub mod Widths
+pub mod Verdicts

@@ -64,3 +64,10 @@ every-false good n k h e = false-or-true (every good n) (λ t. apart (good k) (e
 
 pub every-step : (good : ℕ → Bool) (n : ℕ) → every good n ≡ true → good n ≡ true → every good (n + 1) ≡ true
 every-step good n e h = rw (add-one n, h) e
+
+-- the parts of four tests joined
+pub and-four : (a b c d : Bool) → (a && b && c && d) ≡ true → (a ≡ true) × (b ≡ true) × (c ≡ true) × (d ≡ true)
+and-four a b c d e =
+    let abc : (a && b && c) ≡ true = and-left (a && b && c) d e in
+    let ab : (a && b) ≡ true = and-left (a && b) c abc in
+    (and-left a b ab, and-right a b ab, and-right (a && b) c abc, and-right (a && b && c) d e)
