@@ -2,12 +2,15 @@
 use mathlib.Core.Path.{_≡_, refl, sym, _∙_, ap}
 use mathlib.Core.List.{List}
 use mathlib.Core.Logic.{⊎-elim}
-use Prim.Native.Nat.{ℕ, zero, suc, _+_, _<_, _≤_}
-use native.Mathlib.Nat.{le-of-suc-le-suc, not-suc-le-zero, eq-or-lt-of-le}
+use Prim.Native.Nat.{ℕ, zero, suc, _+_, _<_, _≤_, min}
+use native.Mathlib.Nat.{le-of-suc-le-suc, not-suc-le-zero, eq-or-lt-of-le, min-eq-left, min-eq-right}
 use native.Mathlib.Numerals.{add-one}
+use borrow.Author.Tests.{leb-true, leb-false}
+use mathlib.Core.Bool.{Bool, true, false}
 use native.Mathlib.Omega.{arith}
+use lib.Dec.{leb}
 use lib.ListN.{length, getD, set, length-set}
-use lib.Seq.{getD-set-same, getD-set-other}
+use lib.Seq.{getD-set-same, getD-set-other, set-out}
 use Rattle.base.specs.Lists.{fill}
 
 pub fill-none : (f : ℕ → ℕ) (xs : List ℕ) → xs ≡ fill f 0 xs
@@ -45,3 +48,30 @@ pub fill-same : (f g : ℕ → ℕ) (n : ℕ) (xs : List ℕ) → ((k : ℕ) →
 unfolding fill
 fill-same f g zero xs h = refl
 fill-same f g (suc n) xs h = rw (fill-same f g n xs (λ k l. h k (omega arith)), h n (omega arith))
+
+-- entries past the list's end are not stored
+over : (f : ℕ → ℕ) (n : ℕ) (xs : List ℕ) → length xs ≤ n → fill f n xs ≡ fill f (length xs) xs
+unfolding fill
+over f zero xs h =
+    let e : length xs ≡ 0 = omega arith in
+    rw e
+over f (suc n) xs h =
+    ⊎-elim
+    (λ e. rw e)
+    (λ (l : length xs < suc n).
+    set-out (fill f n xs) n (f n) (rw (fill-length f n xs) (le-of-suc-le-suc l))
+    ∙ over f n xs (le-of-suc-le-suc l))
+    (eq-or-lt-of-le h)
+
+clip : (f : ℕ → ℕ) (n m : ℕ) (xs : List ℕ) → length xs ≡ m → (b : Bool) → leb n m ≡ b → fill f (min n m) xs ≡ fill f n xs
+clip f n m xs e true t = ap (λ k. fill f k xs) (min-eq-left (leb-true n m t))
+clip f n m xs e false t =
+    let h : m < n = leb-false n m t in
+    ap (λ k. fill f k xs) (min-eq-right {n = m} {m = n} (omega arith) ∙ sym e) ∙ sym (over f n xs (omega arith))
+
+pub fill-clip : (f : ℕ → ℕ) (n m : ℕ) (xs : List ℕ) → length xs ≡ m → fill f (min n m) xs ≡ fill f n xs
+fill-clip f n m xs e = clip f n m xs e (leb n m) refl
+
+-- what a loop leaves that stops at the list's end
+pub fill-clipped : (f : ℕ → ℕ) (n m k : ℕ) (xs l : List ℕ) → l ≡ fill f k xs → k ≡ min n m → length xs ≡ m → l ≡ fill f n xs
+fill-clipped f n m k xs l e h long = e ∙ ap (λ j. fill f j xs) h ∙ fill-clip f n m xs long

@@ -38,3 +38,14 @@ sets-patch xs i bs h = sets-eq bs xs i h
 pub paste-patch : (xs : List ℕ) (i : ℕ) (bs : List ℕ) (n : ℕ) → n ≡ length bs → paste xs i bs n ≡ patch xs i bs
 unfolding patch
 paste-patch xs i bs n e = rw (e, take-length bs)
+
+-- a further stretch right behind the first, on a list that holds the first
+pub patch-next : (xs l : List ℕ) (i j : ℕ) (bs cs : List ℕ) → l ≡ patch xs i bs → j ≡ i + length bs → i + length bs ≤ length xs → patch l j cs ≡ patch xs i (bs ++ cs)
+patch-next xs l i j bs cs e h room = rw e (patch-patch xs i j bs cs room h)
+
+-- a stretch from the start, and what was behind it
+pub patch-front : (xs bs : List ℕ) → patch xs 0 bs ≡ bs ++ drop (length bs) xs
+unfolding patch
+patch-front xs bs =
+    let e : 0 + length bs ≡ length bs = omega arith in
+    rw e

@@ -1,11 +1,13 @@
 -- The first check that is not good: what each check adds, and that a number is answered exactly where all checks before are good and its own is not.
 use mathlib.Core.Path.{_≡_, refl, sym, _∙_, ap}
-use mathlib.Core.List.{List, [], _∷_}
-use Prim.Native.Nat.{ℕ, zero, suc}
+use mathlib.Core.Bool.{Bool, true, false}
+use mathlib.Core.List.{List, [], _∷_, _++_}
+use Prim.Native.Nat.{ℕ, zero, suc, _<_}
+use native.Mathlib.Omega.{arith}
 use Rattle.base.specs.declared.Check.{Check}
 use Rattle.base.specs.declared.Check.the-variants.{Good, Bad}
 use Rattle.base.specs.declared.Verdict.{Verdict}
-use Rattle.base.specs.Checks.{verdict, answered, done}
+use Rattle.base.specs.Checks.{verdict, orElse, answered, done, whole}
 
 pub verdict-good : (n : ℕ) (c : Check) (cs : List (ℕ × Check)) → c ≡ Good → verdict ((n, c) ∷ cs) ≡ verdict cs
 unfolding verdict
@@ -18,3 +20,51 @@ verdict-bad n p c cs e = rw e
 pub verdict-done : verdict [] ≡ done
 unfolding verdict
 verdict-done = refl
+
+-- every number of the list is above 0
+abbrev pub Numbered : List (ℕ × Check) → Type 0
+Numbered [] = Unit
+Numbered ((n, c) ∷ cs) = (0 < n) × Numbered cs
+
+abbrev pub AllGood : List (ℕ × Check) → Type 0
+AllGood [] = Unit
+AllGood ((n, c) ∷ cs) = (c ≡ Good) × AllGood cs
+
+-- all checks are good: done
+pub all-good : (cs : List (ℕ × Check)) → AllGood cs → verdict cs ≡ done
+all-good [] g = verdict-done
+all-good ((n, c) ∷ cs) g = verdict-good n c cs (g .0) ∙ all-good cs (g .1)
+
+-- and the other way round
+one : (n : ℕ) (c : Check) (v : Verdict) → 0 < n → orElse n c v .answer ≡ 0 → (c ≡ Good) × (v .answer ≡ 0)
+one n Good v h e = (refl, e)
+one n (Bad p) v h e = let z : ⊥ = omega arith in absurd z
+
+pub good-all : (cs : List (ℕ × Check)) → Numbered cs → verdict cs .answer ≡ 0 → AllGood cs
+unfolding verdict
+good-all [] h e = tt
+good-all ((n, c) ∷ cs) h e =
+    let o = one n c (verdict cs) (h .0) e in
+    (o .0, good-all cs (h .1) (o .1))
+
+-- further checks behind: asked where all before are good
+pub verdict-more : (cs ds : List (ℕ × Check)) → AllGood cs → verdict (cs ++ ds) ≡ verdict ds
+verdict-more [] ds g = refl
+verdict-more ((n, c) ∷ cs) ds g = verdict-good n c (cs ++ ds) (g .0) ∙ verdict-more cs ds (g .1)
+
+kept : (n : ℕ) (c : Check) (v w : Verdict) → (orElse n c v .answer ≡ 0 → ⊥) → ((v .answer ≡ 0 → ⊥) → w ≡ v) → orElse n c w ≡ orElse n c v
+kept n Good v w h f = f h
+kept n (Bad p) v w h f = refl
+
+pub verdict-kept : (cs ds : List (ℕ × Check)) → (verdict cs .answer ≡ 0 → ⊥) → verdict (cs ++ ds) ≡ verdict cs
+unfolding verdict
+verdict-kept [] ds h = absurd (h refl)
+verdict-kept ((n, c) ∷ cs) ds h = kept n c (verdict cs) (verdict (cs ++ ds)) h (λ g. verdict-kept cs ds g)
+
+-- a check of a whole: good exactly where its test holds
+pub whole-good : (b : Bool) → whole b ≡ Good → b ≡ true
+whole-good true e = refl
+whole-good false e =
+    let z : _≡_ {A = ℕ} 0 1 = cc in
+    let y : ⊥ = omega arith in
+    absurd y

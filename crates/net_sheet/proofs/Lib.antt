@@ -1,0 +1,4 @@
+pub mod Images
+pub mod Verdicts
+pub mod Loads
+pub mod Trailers
