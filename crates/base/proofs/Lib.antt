@@ -6,3 +6,6 @@ pub mod Bytes
 pub mod Tests
 pub mod Widths
 pub mod Verdicts
+pub mod Windows
+pub mod One
+pub mod Exact

@@ -1,13 +1,14 @@
 -- The first check that is not good: what each check adds, and that a number is answered exactly where all checks before are good and its own is not.
 use mathlib.Core.Path.{_≡_, refl, sym, _∙_, ap}
 use mathlib.Core.Bool.{Bool, true, false}
+use mathlib.Core.Logic.{_↔_}
 use mathlib.Core.List.{List, [], _∷_, _++_}
-use Prim.Native.Nat.{ℕ, zero, suc, _<_}
+use Prim.Native.Nat.{ℕ, zero, suc, _<_, _≤_}
 use native.Mathlib.Omega.{arith}
 use Rattle.base.specs.declared.Check.{Check}
 use Rattle.base.specs.declared.Check.the-variants.{Good, Bad}
 use Rattle.base.specs.declared.Verdict.{Verdict}
-use Rattle.base.specs.Checks.{verdict, orElse, answered, done, whole}
+use Rattle.base.specs.Checks.{verdict, orElse, answered, done, whole, AllGood, Rising}
 
 pub verdict-good : (n : ℕ) (c : Check) (cs : List (ℕ × Check)) → c ≡ Good → verdict ((n, c) ∷ cs) ≡ verdict cs
 unfolding verdict
@@ -21,15 +22,6 @@ pub verdict-done : verdict [] ≡ done
 unfolding verdict
 verdict-done = refl
 
--- every number of the list is above 0
-abbrev pub Numbered : List (ℕ × Check) → Type 0
-Numbered [] = Unit
-Numbered ((n, c) ∷ cs) = (0 < n) × Numbered cs
-
-abbrev pub AllGood : List (ℕ × Check) → Type 0
-AllGood [] = Unit
-AllGood ((n, c) ∷ cs) = (c ≡ Good) × AllGood cs
-
 -- all checks are good: done
 pub all-good : (cs : List (ℕ × Check)) → AllGood cs → verdict cs ≡ done
 all-good [] g = verdict-done
@@ -40,12 +32,12 @@ one : (n : ℕ) (c : Check) (v : Verdict) → 0 < n → orElse n c v .answer ≡
 one n Good v h e = (refl, e)
 one n (Bad p) v h e = let z : ⊥ = omega arith in absurd z
 
-pub good-all : (cs : List (ℕ × Check)) → Numbered cs → verdict cs .answer ≡ 0 → AllGood cs
+pub good-all : (k : ℕ) (cs : List (ℕ × Check)) → 0 < k → Rising k cs → verdict cs .answer ≡ 0 → AllGood cs
 unfolding verdict
-good-all [] h e = tt
-good-all ((n, c) ∷ cs) h e =
-    let o = one n c (verdict cs) (h .0) e in
-    (o .0, good-all cs (h .1) (o .1))
+good-all k [] z h e = tt
+good-all k ((n, c) ∷ cs) z h e =
+    let o = one n c (verdict cs) (omega (arith, h .0)) e in
+    (o .0, good-all (suc n) cs (omega arith) (h .1) (o .1))
 
 -- further checks behind: asked where all before are good
 pub verdict-more : (cs ds : List (ℕ × Check)) → AllGood cs → verdict (cs ++ ds) ≡ verdict ds
@@ -68,3 +60,8 @@ whole-good false e =
     let z : _≡_ {A = ℕ} 0 1 = cc in
     let y : ⊥ = omega arith in
     absurd y
+
+-- a check of a whole is bad exactly where its test fails, and its place is 0
+pub whole-bad : (b : Bool) (p : ℕ) → (whole b ≡ Bad p) ↔ ((b ≡ false) × (p ≡ 0))
+whole-bad true p = (λ e. let z : _≡_ {A = ℕ} 0 1 = cc in let y : ⊥ = omega arith in absurd y, λ h. let z : _≡_ {A = ℕ} 0 1 = cc (h .0) in let y : ⊥ = omega arith in absurd y)
+whole-bad false p = (λ e. (refl, cc), λ h. ap Bad (sym (h .1)))

@@ -2,7 +2,9 @@
 use mathlib.Core.Path.{_≡_}
 use mathlib.Core.Bool.{Bool, true, false, cond, _&&_}
 use mathlib.Core.List.{List, [], _∷_}
-use Prim.Native.Nat.{ℕ, zero, suc}
+use mathlib.Core.Logic.{_↔_}
+use Prim.Native.Nat.{ℕ, zero, suc, _<_, _≤_}
+use lib.ListN.{take, getD}
 use Rattle.base.specs.declared.Check.{Check}
 use Rattle.base.specs.declared.Check.the-variants.{Good, Bad}
 use Rattle.base.specs.declared.Verdict.{Verdict}
@@ -40,3 +42,30 @@ orElse n (Bad p) next = answered n p
 unfoldable pub verdict : List (ℕ × Check) → Verdict
 verdict [] = done
 verdict ((n, c) ∷ cs) = orElse n c (verdict cs)
+
+-- all checks of a list are good
+abbrev pub AllGood : List (ℕ × Check) → Type 0
+AllGood [] = Unit
+AllGood ((n, c) ∷ cs) = (c ≡ Good) × AllGood cs
+
+-- the checks stand in the order of their numbers, from k on
+abbrev pub Rising : ℕ → List (ℕ × Check) → Type 0
+Rising k [] = Unit
+Rising k ((n, c) ∷ cs) = (k ≤ n) × Rising (suc n) cs
+
+-- the number of check j of a list, and what it finds
+abbrev pub numberOf : List (ℕ × Check) → ℕ → ℕ
+numberOf cs j = getD cs j (0, Good) .0
+
+abbrev pub foundBy : List (ℕ × Check) → ℕ → Check
+foundBy cs j = getD cs j (0, Good) .1
+
+-- p is the lowest of n entries that is not good
+pub record Lowest (good : ℕ → Bool) (n p : ℕ) : Type 0 where
+  pub within : p < n
+  pub bad : good p ≡ false
+  pub before : (k : ℕ) → k < p → good k ≡ true
+
+-- Check j of a list answers exactly: its number, with that place, if and only if all checks before are good and it finds that place.
+abbrev pub ExactAt : List (ℕ × Check) → ℕ → ℕ → Type 0
+ExactAt cs j p = (verdict cs ≡ answered (numberOf cs j) p) ↔ (AllGood (take j cs) × (foundBy cs j ≡ Bad p))

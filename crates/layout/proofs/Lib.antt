@@ -1,3 +1,5 @@
 pub mod Entries
 pub mod Puts
 pub mod Found
+pub mod Meaning
+pub mod One

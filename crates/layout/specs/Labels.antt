@@ -1,7 +1,8 @@
 -- Label entries (outline, "The net sheet"): node number, length 1 to 31, that many bytes from 0x20 to 0x7E; the node numbers exist and strictly rise, and entries fill the section.
+use mathlib.Core.Path.{_≡_}
 use mathlib.Core.Bool.{Bool, true, false, cond, _&&_}
 use mathlib.Core.List.{List}
-use Prim.Native.Nat.{ℕ, zero, suc, _+_}
+use Prim.Native.Nat.{ℕ, zero, suc, _+_, _<_}
 use lib.Dec.{eqb, ltb, leb}
 use lib.ListN.{length, getD}
 use Rattle.base.specs.Bytes.{twoAt}
@@ -42,3 +43,22 @@ labelsFrom (suc d) nodes s i least e =
 
 abbrev pub labelCheck : ℕ → List ℕ → Check
 labelCheck nodes s = labelsFrom (length s) nodes s 0 0 0
+
+-- Entry e stands at byte i, where its node's number is to be `least` or more: every entry before it is good, and each begins where the one before it ends.
+pub data Reached (nodes : ℕ) (s : List ℕ) : ℕ → ℕ → ℕ → Type 0 where
+  start : Reached nodes s 0 0 0
+  next : {e i least : ℕ} → Reached nodes s e i least → i < length s → entryGood nodes least s i ≡ true → Reached nodes s (suc e) (entryEnd s i) (suc (entryNode s i))
+
+-- entry e is the first that breaks its rule
+pub record BadEntry (nodes : ℕ) (s : List ℕ) (e : ℕ) : Type 0 where
+  pub byte : ℕ
+  pub least : ℕ
+  pub reached : Reached nodes s e byte least
+  pub inside : byte < length s
+  pub bad : entryGood nodes least s byte ≡ false
+
+-- good entries fill the section exactly
+pub record Filled (nodes : ℕ) (s : List ℕ) : Type 0 where
+  pub entries : ℕ
+  pub least : ℕ
+  pub reached : Reached nodes s entries (length s) least

@@ -5,13 +5,13 @@ use mathlib.Core.List.{List, [], _∷_, _++_}
 use Prim.Native.Nat.{ℕ, _≤_, _<_}
 use native.Mathlib.Omega.{arith}
 use borrow.Author.Tests.{eq-eqb, ne-eqb, le-leb, lt-leb}
-use lib.Dec.{eqb, lit<}
+use lib.Dec.{eqb, lit<, lit≤}
 use lib.ListN.{length, drop}
 use Rattle.base.specs.declared.Verdict.{Verdict}
-use Rattle.base.specs.Checks.{verdict, whole, answered}
+use Rattle.base.specs.Checks.{verdict, whole, answered, AllGood, Rising}
 use Rattle.base.specs.Lists.{patch}
 use Rattle.base.proofs.Patch.{patch-front}
-use Rattle.base.proofs.Verdicts.{Numbered, AllGood, good-all, verdict-good, verdict-bad, verdict-done, verdict-more, verdict-kept, whole-good}
+use Rattle.base.proofs.Verdicts.{good-all, verdict-good, verdict-bad, verdict-done, verdict-more, verdict-kept, whole-good}
 use Rattle.netlist.specs.declared.Netlist.{Netlist}
 use Rattle.netlist.specs.Netlists.{noNet}
 use Rattle.netlist.specs.Checks.{netChecks, numbersGood}
@@ -31,9 +31,13 @@ pub read-refused : (s : List ℕ) (v : Verdict) → sheetVerdict s ≡ v → (v 
 unfolding netRead
 read-refused s v e h = rw (e, ne-eqb (v .answer) 0 h)
 
--- the checks of a netlist are numbered from 3 on
-pub numbered : (n : Netlist) → Numbered (netChecks n)
-numbered n = (lit< tt, (lit< tt, (lit< tt, (lit< tt, tt))))
+-- the checks of a netlist stand in the order of their numbers, from 3 on; so do the reader's and the writer's
+pub rising : (n : Netlist) → Rising 3 (netChecks n)
+rising n = (lit≤ tt, (lit≤ tt, (lit≤ tt, (lit≤ tt, tt))))
+
+-- a netlist that is answered 0 passed them all
+pub net-good : (n : Netlist) → verdict (netChecks n) .answer ≡ 0 → AllGood (netChecks n)
+net-good n e = good-all 3 (netChecks n) (lit< tt) (rising n) e
 
 -- where they are all good the counts are within their numbers
 pub net-within : (n : Netlist) → AllGood (netChecks n) → Within n

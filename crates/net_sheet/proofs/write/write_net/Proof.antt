@@ -6,11 +6,10 @@ use borrow.Author.Tests.{lt-ltb, le-ltb, lt-leb, le-leb, eq-eqb, ne-eqb, ltb-tru
 use native.Mathlib.Numerals.{add-one}
 use denote.Ref.{now}
 use Rattle.base.specs.Checks.{answered}
-use Rattle.base.proofs.Verdicts.{good-all}
 use Rattle.base.specs.declared.Verdict.{Verdict}
 use Rattle.netlist.specs.Checks.{netChecks}
 use Rattle.net_sheet.proofs.Images.{image-length}
-use Rattle.net_sheet.proofs.Verdicts.{numbered, net-within, write-kept, write-short, write-done, wrote-refused, wrote-done}
+use Rattle.net_sheet.proofs.Verdicts.{net-good, net-within, write-kept, write-short, write-done, wrote-refused, wrote-done}
 use borrow.Author.Needs.{needs}
 use Rattle.net_sheet.proofs.write.write_net.Statement.{statement}
 use Rattle.net_sheet.proofs.write.write_net.Tie as tie
@@ -40,7 +39,7 @@ mul-size c =
     let x = c .before in
     let a = x .before .before .before .before .args in
     let n = a .net in
-    let g = good-all (netChecks n) (numbered n) (sym (ap (λ v. v .answer) (x .before .before .check-net .ensures)) ∙ x .if1 .left) in
+    let g = net-good n (sym (ap (λ v. v .answer) (x .before .before .check-net .ensures)) ∙ x .if1 .left) in
     let w = net-within n g in
     omega arith
 
@@ -50,7 +49,7 @@ mul-size-2 c =
     let x = c .before .before in
     let a = x .before .before .before .before .args in
     let n = a .net in
-    let g = good-all (netChecks n) (numbered n) (sym (ap (λ v. v .answer) (x .before .before .check-net .ensures)) ∙ x .if1 .left) in
+    let g = net-good n (sym (ap (λ v. v .answer) (x .before .before .check-net .ensures)) ∙ x .if1 .left) in
     let w = net-within n g in
     omega arith
 
@@ -60,7 +59,7 @@ add-size c =
     let x = c .before .before in
     let a = x .before .before .before .before .args in
     let n = a .net in
-    let g = good-all (netChecks n) (numbered n) (sym (ap (λ v. v .answer) (x .before .before .check-net .ensures)) ∙ x .if1 .left) in
+    let g = net-good n (sym (ap (λ v. v .answer) (x .before .before .check-net .ensures)) ∙ x .if1 .left) in
     let w = net-within n g in
     omega arith
 
@@ -70,7 +69,7 @@ add-size-2 c =
     let x = c .before .before .before in
     let a = x .before .before .before .before .args in
     let n = a .net in
-    let g = good-all (netChecks n) (numbered n) (sym (ap (λ v. v .answer) (x .before .before .check-net .ensures)) ∙ x .if1 .left) in
+    let g = net-good n (sym (ap (λ v. v .answer) (x .before .before .check-net .ensures)) ∙ x .if1 .left) in
     let w = net-within n g in
     omega arith
 
@@ -80,7 +79,7 @@ add-size-3 c =
     let x = c .before .before .before in
     let a = x .before .before .before .before .args in
     let n = a .net in
-    let g = good-all (netChecks n) (numbered n) (sym (ap (λ v. v .answer) (x .before .before .check-net .ensures)) ∙ x .if1 .left) in
+    let g = net-good n (sym (ap (λ v. v .answer) (x .before .before .check-net .ensures)) ∙ x .if1 .left) in
     let w = net-within n g in
     omega arith
 
@@ -90,7 +89,7 @@ returns-2 c =
     let x = c .before .before .before .before in
     let a = x .before .before .before .before .args in
     let n = a .net in
-    let g = good-all (netChecks n) (numbered n) (sym (ap (λ v. v .answer) (x .before .before .check-net .ensures)) ∙ x .if1 .left) in
+    let g = net-good n (sym (ap (λ v. v .answer) (x .before .before .check-net .ensures)) ∙ x .if1 .left) in
     let w = net-within n g in
     let l = label-long (x .before .before .before .before) in
     let i = image-length n (omega arith) in
@@ -103,7 +102,7 @@ put-net-requires c κs =
     let x = c .before .before .before .before .before in
     let a = x .before .before .before .before .args in
     let n = a .net in
-    let g = good-all (netChecks n) (numbered n) (sym (ap (λ v. v .answer) (x .before .before .check-net .ensures)) ∙ x .if1 .left) in
+    let g = net-good n (sym (ap (λ v. v .answer) (x .before .before .check-net .ensures)) ∙ x .if1 .left) in
     let w = net-within n g in
     (w .nodes, w .outputs, w .labels, omega arith)
 
@@ -117,7 +116,7 @@ returns-3 c =
     let x = c .before .before .before .before .before .before .before .before in
     let a = x .before .before .before .before .args in
     let n = a .net in
-    let g = good-all (netChecks n) (numbered n) (sym (ap (λ v. v .answer) (x .before .before .check-net .ensures)) ∙ x .if1 .left) in
+    let g = net-good n (sym (ap (λ v. v .answer) (x .before .before .check-net .ensures)) ∙ x .if1 .left) in
     let w = net-within n g in
     let l = label-long (x .before .before .before .before) in
     let i = image-length n (omega arith) in

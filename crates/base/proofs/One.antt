@@ -1,0 +1,13 @@
+-- Each promise determines its result.
+use mathlib.Core.Path.{_≡_, sym, _∙_}
+use Rattle.base.specs.Promises.{OneResult}
+use Rattle.base.proofs.le16.Kinds as le16-kinds
+use Rattle.base.proofs.le16.Reads as le16
+use Rattle.base.proofs.le32.Kinds as le32-kinds
+use Rattle.base.proofs.le32.Reads as le32
+
+pub le16-one : OneResult 0 le16-kinds.ps le16-kinds.r le16.Post
+le16-one κs a r r′ x x′ p q = p ∙ sym q
+
+pub le32-one : OneResult 0 le32-kinds.ps le32-kinds.r le32.Post
+le32-one κs a r r′ x x′ p q = p ∙ sym q

@@ -1,0 +1,24 @@
+-- What it means that a promise determines its result: any two results that it allows are equal.
+use mathlib.Core.Path.{_≡_}
+use mathlib.Core.List.{List}
+use Prim.Native.Nat.{ℕ}
+use contract.Lifetimes.{Lfts}
+use denote.Triple.Clauses.{AtExit}
+use borrow.Fn.Kind.{PK, RK}
+use borrow.Fn.Kinds.{Out, Dens, endedOf, resT}
+
+-- P is a function's `ensures`, over its lifetimes, its arguments, its result and its lent parameters as it returns.
+abbrev pub OneResult : (n : ℕ) (ps : List (PK n)) (k : RK n) → Out n ps k → Type 0
+OneResult n ps k P =
+    (κs : Lfts n) (a : Dens κs ps) (r r′ : resT k κs .Denot) (x x′ : AtExit (endedOf n ps k) κs)
+    → P κs a r x
+    → P κs a r′ x′
+    → r ≡ r′
+
+-- the same for what is found behind a lent parameter too
+abbrev pub OneOutcome : (n : ℕ) (ps : List (PK n)) (k : RK n) → Out n ps k → ((κs : Lfts n) → AtExit (endedOf n ps k) κs → List ℕ) → Type 0
+OneOutcome n ps k P left =
+    (κs : Lfts n) (a : Dens κs ps) (r r′ : resT k κs .Denot) (x x′ : AtExit (endedOf n ps k) κs)
+    → P κs a r x
+    → P κs a r′ x′
+    → (r ≡ r′) × (left κs x ≡ left κs x′)

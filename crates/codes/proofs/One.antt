@@ -1,0 +1,8 @@
+-- Each promise determines its result, and what it leaves in a lent buffer: stated of the contracts as the source has them.
+use mathlib.Core.Path.{_≡_, sym, _∙_}
+use Rattle.base.specs.Promises.{OneResult}
+use Rattle.codes.proofs.record_good.Kinds as record-good-kinds
+use Rattle.codes.proofs.record_good.Reads as record-good
+
+pub record-good-one : OneResult 1 record-good-kinds.ps record-good-kinds.r record-good.Post
+record-good-one κs a r r′ x x′ p q = p ∙ sym q

@@ -1,0 +1,5 @@
+pub mod Copies
+pub mod Rereads
+pub mod Trims
+pub mod Cleans
+pub mod Trips

@@ -1,0 +1,132 @@
+-- What stands past a netlist's counts does not matter: the checks are good with zeros there, and a netlist with zeros there is its own.
+use mathlib.Core.Path.{_≡_, refl, sym, _∙_, ap}
+use mathlib.Core.Bool.{Bool, true, false, cond, _&&_, _||_}
+use mathlib.Core.List.{List, [], _∷_, _++_}
+use Prim.Native.Nat.{ℕ, zero, suc, _+_, _<_, _≤_}
+use native.Mathlib.Omega.{arith}
+use borrow.Author.Tests.{ltb-true, eqb-true, leb-true, leb-false}
+use lib.Dec.{eqb, leb, ltb, lit<}
+use lib.ListN.{length, getD, take, drop, replicate, length-replicate, getD-replicate, List·getD-eq-default}
+use lib.Seq.{ext-getD}
+use Rattle.base.specs.Lists.{fill}
+use Rattle.base.specs.Checks.{lowest, AllGood}
+use Rattle.base.proofs.Fill.{fill-same, fill-at, fill-past, fill-length}
+use Rattle.base.proofs.First.{lowest-good, good-lowest}
+use Rattle.base.proofs.Tests.{and-left, and-right, and-true}
+use Rattle.base.proofs.Windows.{fill-window}
+use Rattle.codes.specs.declared.Record.{Record}
+use Rattle.codes.specs.declared.Row.{Row}
+use Rattle.codes.specs.Rows.{rowAt, placeOf}
+use Rattle.codes.specs.Records.{operandGood, fieldGood, fieldsGood, usesK, widthGood, widthsGood, recordGood}
+use Rattle.layout.specs.Labels.{labelCheck}
+use Rattle.netlist.specs.declared.Netlist.{Netlist}
+use Rattle.netlist.specs.Netlists.{recordOf, outputOf, labelsOf}
+use Rattle.netlist.specs.Checks.{netChecks}
+use Rattle.netlist.proofs.Numbers.{Within}
+use Rattle.net_trips.specs.Typed.{Array, Typed}
+use Rattle.net_trips.specs.Trips.{cleared, trimmed, ZerosFrom, Clean}
+
+-- a good field names a node, the unused one node 0
+below : (used : Bool) (nodes i code x : ℕ) → 0 < nodes → fieldGood used nodes i code x ≡ true → x < nodes
+below true nodes i code x h e = ltb-true x nodes (and-left (ltb x nodes) (eqb code 2 || ltb x i) e)
+below false nodes i code x h e =
+    let z : x ≡ 0 = eqb-true x 0 e in
+    omega arith
+
+-- so a good record looks at widths of nodes alone
+pub same-widths : (ws vs : List ℕ) (nodes i : ℕ) (r : Record) → 0 < nodes → ((x : ℕ) → x < nodes → getD vs x 0 ≡ getD ws x 0) → recordGood ws nodes i r ≡ true → recordGood vs nodes i r ≡ true
+unfolding recordGood fieldsGood
+same-widths ws vs nodes i r h same e =
+    let row : Row = rowAt (placeOf (r .code)) in
+    let fa : Bool = fieldGood (ltb 0 (row .operands)) nodes i (r .code) (r .a) in
+    let fb : Bool = fieldGood (ltb 1 (row .operands)) nodes i (r .code) (r .b) in
+    let fc : Bool = fieldGood (ltb 2 (row .operands)) nodes i (r .code) (r .c) in
+    let fk : Bool = usesK (row .rule) || eqb (r .k) 0 in
+    let head : Bool = ltb (placeOf (r .code)) 19 && widthGood (r .width) in
+    let wide : Bool = widthsGood (row .rule) (r .width) (getD ws (r .a) 0) (getD ws (r .b) 0) (getD ws (r .c) 0) (r .k) in
+    let f : (fa && fb && fc && fk) ≡ true = and-right head (fa && fb && fc && fk) (and-left (head && (fa && fb && fc && fk)) wide e) in
+    let abc : (fa && fb && fc) ≡ true = and-left (fa && fb && fc) fk f in
+    let ab : (fa && fb) ≡ true = and-left (fa && fb) fc abc in
+    let la : r .a < nodes = below (ltb 0 (row .operands)) nodes i (r .code) (r .a) h (and-left fa fb ab) in
+    let lb : r .b < nodes = below (ltb 1 (row .operands)) nodes i (r .code) (r .b) h (and-right fa fb ab) in
+    let lc : r .c < nodes = below (ltb 2 (row .operands)) nodes i (r .code) (r .c) h (and-right (fa && fb) fc abc) in
+    rw (same (r .a) la, same (r .b) lb, same (r .c) lc) e
+
+-- an element below the count
+at-cleared : (m n i : ℕ) (xs : List ℕ) → i < n → n ≤ m → getD (cleared m n xs) i 0 ≡ getD xs i 0
+at-cleared m n i xs h l = fill-at (λ j. getD xs j 0) n i (replicate m 0) h (rw (length-replicate {A = ℕ} m 0) l)
+
+module _ (n : Netlist) (w : Within n) where
+  record-trimmed : (i : ℕ) → i < n .nodes → recordOf (trimmed n) i ≡ recordOf n i
+  unfolding trimmed
+  record-trimmed i h =
+      let k = w .nodes in
+      rw (
+        at-cleared 1024 (n .nodes) i (n .code) h k,
+        at-cleared 1024 (n .nodes) i (n .width) h k,
+        at-cleared 1024 (n .nodes) i (n .a) h k,
+        at-cleared 1024 (n .nodes) i (n .b) h k,
+        at-cleared 1024 (n .nodes) i (n .c) h k,
+        at-cleared 1024 (n .nodes) i (n .k) h k,
+      )
+
+  labels-trimmed : n .labels ≤ length (n .label) → labelsOf (trimmed n) ≡ labelsOf n
+  unfolding trimmed
+  labels-trimmed l =
+      ap (λ xs. take (n .labels) xs) (fill-same (λ j. getD (n .label) j 0) (λ j. getD (n .label) (0 + j) 0) (n .labels) (replicate 4096 0) (λ j h. ap (λ k. getD (n .label) k 0) (omega arith)))
+      ∙ fill-window (n .label) (replicate 4096 0) 0 (n .labels) (omega arith) (w .labels)
+
+  pub still-good : n .labels ≤ length (n .label) → AllGood (netChecks n) → AllGood (netChecks (trimmed n))
+  unfolding trimmed
+  still-good l g =
+      let vs : List ℕ = cleared 1024 (n .nodes) (n .width) in
+      let records : (i : ℕ) → i < n .nodes → recordGood vs (n .nodes) i (recordOf (trimmed n) i) ≡ true =
+      λ i h.
+      ap (λ r. recordGood vs (n .nodes) i r) (record-trimmed i h)
+      ∙ same-widths (n .width) vs (n .nodes) i (recordOf n i) (w .some) (λ x b. at-cleared 1024 (n .nodes) x (n .width) b (w .nodes)) (lowest-good (λ j. recordGood (n .width) (n .nodes) j (recordOf n j)) (n .nodes) (g .1 .0) i h) in
+      let outputs : (j : ℕ) → j < n .outputs → ltb (outputOf (trimmed n) j) (n .nodes) ≡ true =
+      λ j h.
+      ap (λ x. ltb x (n .nodes)) (at-cleared 64 (n .outputs) j (n .output) h (w .outputs))
+      ∙ lowest-good (λ i. ltb (outputOf n i) (n .nodes)) (n .outputs) (g .1 .1 .0) j h in (
+        g .0,
+        (
+          good-lowest (λ i. recordGood vs (n .nodes) i (recordOf (trimmed n) i)) (n .nodes) records,
+          (
+            good-lowest (λ j. ltb (outputOf (trimmed n) j) (n .nodes)) (n .outputs) outputs,
+            (ap (λ b. labelCheck (n .nodes) b) (labels-trimmed l) ∙ g .1 .1 .1 .0, tt),
+          ),
+        ),
+      )
+
+zeros-at : (m i : ℕ) → _≡_ {A = ℕ} (getD (replicate m 0) i 0) 0
+zeros-at zero i = refl
+zeros-at (suc m) zero = refl
+zeros-at (suc m) (suc i) = zeros-at m i
+
+-- a list filled so far has zeros from there on
+pub fill-zeros : (f : ℕ → ℕ) (m n : ℕ) → ZerosFrom n (fill f n (replicate m 0))
+fill-zeros f m n i h = fill-past f n i (replicate m 0) h ∙ zeros-at m i
+
+on : (m n : ℕ) (xs : List ℕ) → n ≤ m → ZerosFrom n xs → (i : ℕ) (b : Bool) → leb n i ≡ b → getD (cleared m n xs) i 0 ≡ getD xs i 0
+on m n xs l z i true e = fill-zeros (λ j. getD xs j 0) m n i (leb-true n i e) ∙ sym (z i (leb-true n i e))
+on m n xs l z i false e = at-cleared m n i xs (leb-false n i e) l
+
+pub cleared-same : (m n : ℕ) (xs : List ℕ) → length xs ≡ m → n ≤ m → ZerosFrom n xs → cleared m n xs ≡ xs
+cleared-same m n xs e l z =
+    ext-getD 0 (cleared m n xs) xs (fill-length (λ j. getD xs j 0) n (replicate m 0) ∙ length-replicate m 0 ∙ sym e)
+    (λ i h. on m n xs l z i (leb n i) refl)
+
+-- a clean netlist is its own
+pub trimmed-same : (n : Netlist) → Within n → Typed n → Clean n → trimmed n ≡ n
+unfolding trimmed
+trimmed-same n w ty c =
+    rw (
+      cleared-same 1024 (n .nodes) (n .code) (ty .code .long) (w .nodes) (c .code),
+      cleared-same 1024 (n .nodes) (n .width) (ty .width .long) (w .nodes) (c .width),
+      cleared-same 1024 (n .nodes) (n .a) (ty .a .long) (w .nodes) (c .a),
+      cleared-same 1024 (n .nodes) (n .b) (ty .b .long) (w .nodes) (c .b),
+      cleared-same 1024 (n .nodes) (n .c) (ty .c .long) (w .nodes) (c .c),
+      cleared-same 1024 (n .nodes) (n .k) (ty .k .long) (w .nodes) (c .k),
+      cleared-same 64 (n .outputs) (n .output) (ty .output .long) (w .outputs) (c .output),
+      cleared-same 4096 (n .labels) (n .label) (ty .label .long) (w .labels) (c .label),
+    )
