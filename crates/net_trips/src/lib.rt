@@ -1,4 +1,21 @@
-// Net sheets there and back: a sheet read and written again, a netlist written and read again.
-pub fn nothing() -> u8 {
-    0
+// A net sheet there and back, as one promise: what was read and written again is the same bytes.
+ghost use mathlib.Core.Path.{_≡_};
+ghost use lib.ListN.{length};
+ghost use Rattle.net_trips.specs.Copy.{copied, copiedInto};
+
+// Reads a sheet and writes what was read.
+pub fn copy_net(sheet: &[u8], image: &mut [u8]) -> net_sheet::Wrote
+    ensures { λ r. ⌜ (r ≡ copied (now (sheet .entry)) (length (now (image .entry)))) × (now (image .exit) ≡ copiedInto (now (sheet .entry)) (now (image .entry))) ⌝ }
+{
+    let got = net_sheet::read_net(sheet);
+    let net = got.net;
+    if got.answer == 0 {
+        net_sheet::write_net(net, image)
+    } else {
+        net_sheet::Wrote {
+            answer: got.answer,
+            place: got.place,
+            length: 0,
+        }
+    }
 }
