@@ -14,7 +14,7 @@ use Rattle.net_sheet.specs.Reading.{netOf, netTrailerGood, sheetVerdict, netRea
 use Rattle.net_sheet.specs.Writing.{netWrote, netWritten}
 use Rattle.net_sheet.proofs.Verdicts.{net-within, write-short, wrote-refused}
 use Rattle.net_trips.specs.Typed.{Bytes}
-use Rattle.net_trips.specs.Copy.{copied, copiedInto, wroteAs}
+use Rattle.net_trips.specs.Again.{copied, copiedInto, wroteAs}
 use Rattle.net_trips.proofs.Copies.{image-of}
 use Rattle.net_trips.proofs.Trips.{accepted, net-is, write-after-read}
 

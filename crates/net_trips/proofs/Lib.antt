@@ -6,3 +6,4 @@ pub mod Trips
 pub mod Refusals
 pub mod Copying
 pub mod One
+pub mod Rereading

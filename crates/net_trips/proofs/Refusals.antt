@@ -29,8 +29,11 @@ pub read-answers : ReadAnswers
 unfolding netRead
 read-answers s = refl
 
+pub write-rising : (n : Netlist) (room : ℕ) → Rising 1 (writeChecks n room)
+write-rising n room = (lit≤ tt, (lit≤ tt, (lit≤ tt, (lit≤ tt, (lit≤ tt, tt)))))
+
 pub write-exact : WriteExact
-write-exact n room j p h = exact (writeChecks n room) (lit≤ tt, (lit≤ tt, (lit≤ tt, (lit≤ tt, (lit≤ tt, tt))))) j p h
+write-exact n room j p h = exact (writeChecks n room) (write-rising n room) j p h
 
 pub write-answers : WriteAnswers
 unfolding netWrote

@@ -1,4 +1,4 @@
 pub mod Typed
 pub mod Trips
 pub mod Refusals
-pub mod Copy
+pub mod Again

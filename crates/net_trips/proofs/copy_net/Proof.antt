@@ -8,7 +8,7 @@ use denote.Ref.{now}
 use Rattle.net_sheet.specs.Reading.{netRead}
 use Rattle.net_sheet.specs.Writing.{netWrote, netWritten}
 use Rattle.net_trips.specs.Typed.{Bytes}
-use Rattle.net_trips.specs.Copy.{wroteAs}
+use Rattle.net_trips.specs.Again.{wroteAs}
 use Rattle.net_trips.proofs.Copying.{copy-done, copy-refused}
 use borrow.Author.Needs.{needs}
 use Rattle.net_trips.proofs.copy_net.Statement.{statement}
