@@ -1,15 +1,15 @@
 -- A number is answered exactly where all checks before it are good and its own is not. By induction on the checks: the answer is 0 or a number of the list, and the numbers rise.
-use mathlib.Core.Path.{_≡_, refl, sym, _∙_, ap}
-use mathlib.Core.Logic.{_⊎_, inl, inr, ⊎-elim, _↔_}
+use mathlib.Core.Path.{_≡_, refl, _∙_, ap}
+use mathlib.Core.Logic.{_⊎_, inl, inr, ⊎-elim}
 use mathlib.Core.List.{List, [], _∷_}
 use Prim.Native.Nat.{ℕ, zero, suc, _<_, _≤_}
 use native.Mathlib.Nat.{not-suc-le-zero, le-of-suc-le-suc}
 use native.Mathlib.Omega.{arith}
-use lib.ListN.{length, take, getD}
+use lib.ListN.{length, take}
 use Rattle.base.specs.declared.Check.{Check}
 use Rattle.base.specs.declared.Check.the-variants.{Good, Bad}
 use Rattle.base.specs.declared.Verdict.{Verdict}
-use Rattle.base.specs.Checks.{verdict, orElse, answered, done, AllGood, Rising, numberOf, foundBy, ExactAt}
+use Rattle.base.specs.Checks.{verdict, orElse, answered, AllGood, Rising, numberOf, foundBy, ExactAt}
 use Rattle.base.proofs.Verdicts.{verdict-good, verdict-bad}
 
 -- an answer is 0 or one of the numbers from k on

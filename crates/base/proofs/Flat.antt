@@ -1,13 +1,13 @@
 -- Entries of one size, one behind the other: how long they are together, and where each byte stands. By induction on how many there are.
-use mathlib.Core.Path.{_≡_, refl, sym, _∙_, ap}
+use mathlib.Core.Path.{_≡_, refl, sym, _∙_}
 use mathlib.Core.List.{List, [], _++_}
 use mathlib.Core.Logic.{⊎-elim}
-use Prim.Native.Nat.{ℕ, zero, suc, _+_, _*_, _<_, _≤_}
+use Prim.Native.Nat.{ℕ, zero, suc, _+_, _*_, _<_}
 use native.Mathlib.Nat.{le-of-suc-le-suc, not-suc-le-zero, eq-or-lt-of-le, suc-mul, mul-le-mul-right, zero-mul}
 use native.Mathlib.Numerals.{add-one}
 use native.Mathlib.Omega.{arith}
 use lib.ListN.{length, getD, take, drop, length-append, List·getD-append}
-use lib.Seq.{getD-append-add, take-add, take-append-seam}
+use lib.Seq.{getD-append-add, take-add}
 use Rattle.base.specs.Lists.{flat}
 
 pub flat-none : (f : ℕ → List ℕ) → flat f 0 ≡ []

@@ -1,5 +1,5 @@
 -- Each promise determines its result.
-use mathlib.Core.Path.{_≡_, sym, _∙_}
+use mathlib.Core.Path.{sym, _∙_}
 use Rattle.base.specs.Promises.{OneResult}
 use Rattle.base.proofs.le16.Kinds as le16-kinds
 use Rattle.base.proofs.le16.Reads as le16

@@ -1,11 +1,11 @@
 -- Bytes written into a list: a further stretch behind the first is one stretch, and the length stays.
-use mathlib.Core.Path.{_≡_, refl, sym, _∙_, ap}
-use mathlib.Core.List.{List, [], _∷_, _++_, append-assoc, append-nil}
-use Prim.Native.Nat.{ℕ, zero, suc, _+_, _-_, _*_, _<_, _≤_}
+use mathlib.Core.Path.{_≡_, sym, _∙_}
+use mathlib.Core.List.{List, [], _++_, append-assoc, append-nil}
+use Prim.Native.Nat.{ℕ, _+_, _≤_}
 use native.Mathlib.Nat.{add-zero, add-assoc}
 use native.Mathlib.Omega.{arith}
-use lib.ListN.{length, getD, take, drop, set, length-append, length-take, length-drop, take-append-drop, length-set}
-use lib.Seq.{length-take-le, take-append-add, drop-append-add, drop-drop, sets, sets-eq, take-at, drop-at, paste, take-length}
+use lib.ListN.{length, take, drop, length-append, length-drop, take-append-drop}
+use lib.Seq.{length-take-le, drop-append-add, drop-drop, sets, sets-eq, take-at, paste, take-length}
 use Rattle.base.specs.Lists.{patch}
 
 pub patch-none : (xs : List ℕ) (i : ℕ) → patch xs i [] ≡ xs

@@ -1,11 +1,11 @@
 -- A stretch of a list, element by element: what `take` after `drop` holds. By induction on the stretch.
 use mathlib.Core.Path.{_≡_, refl, sym, _∙_, ap}
 use mathlib.Core.List.{List, [], _∷_, _++_}
-use Prim.Native.Nat.{ℕ, zero, suc, _+_, _*_, _<_, _≤_}
+use Prim.Native.Nat.{ℕ, zero, suc, _+_, _<_, _≤_}
 use native.Mathlib.Nat.{add-suc, add-zero}
 use native.Mathlib.Omega.{arith}
-use lib.ListN.{length, getD, take, drop, take-append-drop, length-take, length-drop}
-use lib.Seq.{drop-cons, take-add, getD-take, getD-drop, ext-getD, length-take-le, drop-drop}
+use lib.ListN.{length, getD, take, drop, take-append-drop, length-drop}
+use lib.Seq.{drop-cons, take-add, getD-take, getD-drop, ext-getD, length-take-le}
 use Rattle.base.specs.Lists.{fill}
 use Rattle.base.proofs.Fill.{fill-at, fill-length}
 

@@ -2,10 +2,10 @@
 use mathlib.Core.Path.{_≡_}
 use mathlib.Core.List.{List}
 use Prim.Native.Nat.{ℕ}
-use contract.Lifetimes.{Lfts}
-use denote.Triple.Clauses.{AtExit}
 use borrow.Fn.Kind.{PK, RK}
 use borrow.Fn.Kinds.{Out, Dens, endedOf, resT}
+use denote.Triple.Clauses.{AtExit}
+use contract.Lifetimes.{Lfts}
 
 -- P is a function's `ensures`, over its lifetimes, its arguments, its result and its lent parameters as it returns.
 abbrev pub OneResult : (n : ℕ) (ps : List (PK n)) (k : RK n) → Out n ps k → Type 0

@@ -1,8 +1,8 @@
 -- The table's places by ranges, computed once over all 256 code bytes.
-use mathlib.Core.Path.{_≡_, refl}
+use mathlib.Core.Path.{_≡_}
 use mathlib.Core.Bool.{Bool, cond}
 use Prim.Native.Nat.{ℕ, _-_, _<_}
-use lib.Dec.{T, eqb, ltb, eqb→eq}
+use lib.Dec.{eqb, ltb, eqb→eq}
 use Rattle.base.proofs.Tests.{below}
 use Rattle.codes.specs.Rows.{rows, place, placeOf}
 

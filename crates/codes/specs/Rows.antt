@@ -1,7 +1,7 @@
 -- The nineteen codes: one table of nineteen rows, each a code, its operand count and its width rule (outline, "The nineteen codes").
-use mathlib.Core.Bool.{Bool, true, false, cond}
+use mathlib.Core.Bool.{cond}
 use mathlib.Core.List.{List, [], _∷_}
-use Prim.Native.Nat.{ℕ, zero, suc}
+use Prim.Native.Nat.{ℕ, suc}
 use lib.Dec.{eqb}
 use lib.ListN.{getD}
 use Rattle.codes.specs.declared.Rule.{Rule}

@@ -1,13 +1,12 @@
 -- A turn of the search for a bad label entry: the entry is bad, is good and lies within the section, or there is none.
-use mathlib.Core.Path.{_≡_, refl, sym, _∙_, ap}
-use mathlib.Core.Bool.{Bool, true, false, cond}
+use mathlib.Core.Path.{_≡_, refl, ap}
+use mathlib.Core.Bool.{true, false}
 use mathlib.Core.List.{List}
 use Prim.Native.Nat.{ℕ, zero, suc, _+_, _-_, _<_, _≤_}
 use native.Mathlib.Numerals.{add-one}
 use native.Mathlib.Omega.{arith}
 use borrow.Author.Tests.{lt-leb, le-leb, leb-true}
-use lib.ListN.{length, getD}
-use Rattle.base.specs.declared.Check.{Check}
+use lib.ListN.{length}
 use Rattle.base.specs.declared.Check.the-variants.{Good, Bad}
 use Rattle.base.proofs.Tests.{and-left}
 use Rattle.layout.specs.Labels.{entryGood, entryNode, entryEnd, labelsFrom, labelCheck}

@@ -1,15 +1,14 @@
 -- What the search for a bad label entry answers, entry by entry: a place exactly where that entry is the first bad one, and good exactly where good entries fill the section.
-use mathlib.Core.Path.{_≡_, refl, sym, _∙_, ap}
+use mathlib.Core.Path.{_≡_, refl, sym, _∙_}
 use mathlib.Core.Bool.{Bool, true, false, cond}
 use mathlib.Core.Logic.{_↔_}
 use mathlib.Core.List.{List}
-use Prim.Native.Nat.{ℕ, zero, suc, _+_, _-_, _<_, _≤_}
+use Prim.Native.Nat.{ℕ, zero, suc, _+_, _-_, _≤_}
 use native.Mathlib.Numerals.{add-one}
 use native.Mathlib.Omega.{arith}
 use borrow.Author.Tests.{leb-true, leb-false}
 use lib.Dec.{leb}
-use lib.ListN.{length, getD}
-use Rattle.base.specs.declared.Check.{Check}
+use lib.ListN.{length}
 use Rattle.base.specs.declared.Check.the-variants.{Good, Bad}
 use Rattle.layout.specs.Labels.{entryGood, entryNode, entryEnd, labelsFrom, labelCheck, Reached, start, next, BadEntry, Filled}
 use Rattle.layout.proofs.Entries.{entry-within, labels-start, labels-bad, labels-next, labels-end}

@@ -1,7 +1,7 @@
 -- Each promise determines its result, and what it leaves in a lent buffer: stated of the contracts as the source has them.
-use mathlib.Core.Path.{_≡_, refl, sym, _∙_}
-use Rattle.base.specs.Promises.{OneResult, OneOutcome}
+use mathlib.Core.Path.{refl, sym, _∙_}
 use denote.Ref.{now}
+use Rattle.base.specs.Promises.{OneResult, OneOutcome}
 use Rattle.layout.proofs.trailer.find_sections.Kinds as find-sections-kinds
 use Rattle.layout.proofs.trailer.find_sections.Reads as find-sections
 use Rattle.layout.proofs.trailer.trailer_bytes.Kinds as trailer-bytes-kinds

@@ -1,12 +1,10 @@
 -- Entries of one size put one behind the other: one turn of the loop. The bytes put are one stretch, which grows by an entry.
-use mathlib.Core.Path.{_≡_, refl, sym, _∙_, ap}
-use mathlib.Core.Bool.{true}
-use mathlib.Core.List.{List, [], _++_}
-use Prim.Native.Nat.{ℕ, zero, suc, _+_, _*_, _<_, _≤_}
+use mathlib.Core.Path.{_≡_, sym, _∙_}
+use mathlib.Core.List.{List, _++_}
+use Prim.Native.Nat.{ℕ, suc, _+_, _*_, _<_, _≤_}
 use native.Mathlib.Nat.{suc-mul, mul-le-mul-right}
 use native.Mathlib.Omega.{arith}
 use borrow.Author.Tests.{le-leb}
-use lib.Dec.{leb}
 use lib.ListN.{length}
 use Rattle.base.specs.Lists.{flat, patch}
 use Rattle.base.proofs.Flat.{flat-none, flat-step, flat-length}

@@ -1,14 +1,14 @@
 -- The sheet as the writer puts it: how long it is, and that its sections put one behind the other are the image.
-use mathlib.Core.Path.{_≡_, refl, sym, _∙_, ap}
-use mathlib.Core.List.{List, [], _∷_, _++_}
+use mathlib.Core.Path.{_≡_, refl, _∙_}
+use mathlib.Core.List.{List, _++_}
 use Prim.Native.Nat.{ℕ, _+_, _*_, _≤_}
 use native.Mathlib.Omega.{arith}
-use lib.ListN.{length, take, length-append}
+use lib.ListN.{length, length-append}
 use lib.Seq.{length-take-le}
 use Rattle.base.specs.Bytes.{le2}
-use Rattle.base.specs.Lists.{flat, patch}
+use Rattle.base.specs.Lists.{patch}
 use Rattle.base.proofs.Flat.{flat-length}
-use Rattle.base.proofs.Patch.{patch-length, patch-next}
+use Rattle.base.proofs.Patch.{patch-next}
 use Rattle.layout.specs.Trailer.{trailerBytes}
 use Rattle.layout.specs.Write.{placed}
 use Rattle.layout.proofs.Puts.{placed-next}

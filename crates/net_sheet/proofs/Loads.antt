@@ -1,5 +1,5 @@
 -- The arrays that were loaded, together the netlist of the sheet.
-use mathlib.Core.Path.{_≡_, refl}
+use mathlib.Core.Path.{_≡_}
 use mathlib.Core.List.{List}
 use Prim.Native.Nat.{ℕ, _+_, _*_, _/_}
 use lib.ListN.{getD, replicate}

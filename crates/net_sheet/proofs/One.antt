@@ -1,7 +1,7 @@
 -- Each promise determines its result, and what it leaves in a lent buffer: stated of the contracts as the source has them.
-use mathlib.Core.Path.{_≡_, sym, _∙_}
-use Rattle.base.specs.Promises.{OneResult, OneOutcome}
+use mathlib.Core.Path.{sym, _∙_}
 use denote.Ref.{now}
+use Rattle.base.specs.Promises.{OneResult, OneOutcome}
 use Rattle.net_sheet.proofs.read.read_net.Kinds as read-net-kinds
 use Rattle.net_sheet.proofs.read.read_net.Reads as read-net
 use Rattle.net_sheet.proofs.write.write_net.Kinds as write-net-kinds

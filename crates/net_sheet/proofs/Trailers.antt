@@ -8,10 +8,10 @@ use borrow.Author.Tests.{le-leb}
 use lib.Dec.{eqb}
 use lib.ListN.{length}
 use Rattle.base.specs.Checks.{verdict, whole}
-use Rattle.base.proofs.Tests.{and-left, and-right}
+use Rattle.base.proofs.Tests.{and-left}
 use Rattle.base.proofs.Verdicts.{verdict-good}
 use Rattle.layout.specs.declared.trailer.Sections.{Sections}
-use Rattle.layout.specs.Trailer.{trailerGood, frontBytes, middleBytes, labelBytes, sectionsOf}
+use Rattle.layout.specs.Trailer.{frontBytes, middleBytes, labelBytes, sectionsOf}
 use Rattle.layout.proofs.Found.{Found, found, lost, named, fills}
 use Rattle.netlist.specs.Checks.{netChecks}
 use Rattle.net_sheet.specs.Image.{netLetter}

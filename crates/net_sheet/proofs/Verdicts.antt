@@ -1,12 +1,10 @@
 -- What the reader and the writer give, from the verdict.
-use mathlib.Core.Path.{_≡_, refl, sym, _∙_, ap}
-use mathlib.Core.Bool.{Bool, true, false, cond}
-use mathlib.Core.List.{List, [], _∷_, _++_}
+use mathlib.Core.Path.{_≡_, sym, _∙_, ap}
+use mathlib.Core.List.{List, []}
 use Prim.Native.Nat.{ℕ, _≤_, _<_}
-use native.Mathlib.Omega.{arith}
 use borrow.Author.Tests.{eq-eqb, ne-eqb, le-leb, lt-leb}
-use lib.Dec.{eqb, lit<, lit≤}
-use lib.ListN.{length, drop}
+use lib.Dec.{lit<, lit≤}
+use lib.ListN.{length}
 use Rattle.base.specs.declared.Verdict.{Verdict}
 use Rattle.base.specs.Checks.{verdict, whole, answered, AllGood, Rising}
 use Rattle.base.specs.Lists.{patch}
@@ -16,8 +14,6 @@ use Rattle.netlist.specs.declared.Netlist.{Netlist}
 use Rattle.netlist.specs.Netlists.{noNet}
 use Rattle.netlist.specs.Checks.{netChecks, numbersGood}
 use Rattle.netlist.proofs.Numbers.{Within, within}
-use Rattle.net_sheet.specs.declared.read.NetRead.{NetRead}
-use Rattle.net_sheet.specs.declared.write.Wrote.{Wrote}
 use Rattle.net_sheet.specs.Image.{netImage}
 use Rattle.net_sheet.specs.Reading.{netOf, sheetVerdict, netRead}
 use Rattle.net_sheet.specs.Writing.{writeVerdict, netWrote, netWritten}

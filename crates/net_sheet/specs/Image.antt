@@ -1,7 +1,6 @@
 -- The net sheet's layout (outline, "The net sheet"): a netlist as bytes. From byte 0 the records, the outputs, the labels, last the trailer.
 use mathlib.Core.List.{List, [], _∷_, _++_}
 use Prim.Native.Nat.{ℕ, _*_}
-use lib.ListN.{length}
 use Rattle.base.specs.Bytes.{le2, le4}
 use Rattle.base.specs.Lists.{flat}
 use Rattle.codes.specs.declared.Record.{Record}

@@ -1,6 +1,6 @@
 -- What a net sheet says, and the checks 1 to 6 on it (outline, "The net sheet" and "Numbers given back").
 use mathlib.Core.Bool.{Bool, cond, _&&_}
-use mathlib.Core.List.{List, [], _∷_}
+use mathlib.Core.List.{List, _∷_}
 use Prim.Native.Nat.{ℕ, _+_, _*_, _/_, _%_}
 use lib.Dec.{eqb, leb}
 use lib.ListN.{length, getD, replicate}

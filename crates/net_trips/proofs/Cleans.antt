@@ -1,21 +1,20 @@
 -- What the reader gives has values of its types, and zeros past its counts.
-use mathlib.Core.Path.{_≡_, refl, sym, _∙_, ap}
-use mathlib.Core.Bool.{Bool, true, false, cond}
+use mathlib.Core.Path.{_≡_, refl, _∙_}
+use mathlib.Core.Bool.{Bool, true, false}
 use mathlib.Core.List.{List}
-use Prim.Native.Nat.{ℕ, zero, suc, _+_, _*_, _/_, _<_, _≤_}
+use Prim.Native.Nat.{ℕ, _+_, _*_, _/_, _<_, _≤_}
 use native.Mathlib.Omega.{arith}
 use borrow.Author.Tests.{leb-true, leb-false}
 use lib.Dec.{leb, lit<}
-use lib.ListN.{length, getD, replicate, length-replicate}
+use lib.ListN.{getD, replicate, length-replicate}
 use Rattle.base.specs.Bytes.{twoAt}
 use Rattle.base.specs.Lists.{fill}
 use Rattle.base.proofs.Bytes.{two-below, four-below}
-use Rattle.base.proofs.Fill.{fill-none, fill-at, fill-length}
-use Rattle.netlist.specs.declared.Netlist.{Netlist}
+use Rattle.base.proofs.Fill.{fill-at, fill-length}
 use Rattle.netlist.specs.Netlists.{noNet}
 use Rattle.netlist.proofs.Numbers.{Within}
 use Rattle.net_sheet.specs.Reading.{recordAt, netFrom}
-use Rattle.net_trips.specs.Typed.{Below, Bytes, Array, Typed}
+use Rattle.net_trips.specs.Typed.{Bytes, Array, Typed}
 use Rattle.net_trips.specs.Trips.{ZerosFrom, Clean}
 use Rattle.net_trips.proofs.Trims.{fill-zeros}
 

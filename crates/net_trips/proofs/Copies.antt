@@ -1,25 +1,22 @@
 -- A sheet that passes the checks 1 to 3 is the image of its netlist: section by section, each byte by the number it belongs to.
 use mathlib.Core.Path.{_≡_, refl, sym, _∙_, ap}
-use mathlib.Core.Bool.{Bool, true, _&&_}
+use mathlib.Core.Bool.{true, _&&_}
 use mathlib.Core.List.{List, [], _∷_, _++_}
-use Prim.Native.Nat.{ℕ, zero, suc, _+_, _-_, _*_, _/_, _%_, _<_, _≤_}
-use native.Mathlib.Nat.{add-zero, add-assoc}
+use Prim.Native.Nat.{ℕ, _+_, _*_, _/_, _%_, _<_, _≤_}
+use native.Mathlib.Nat.{add-zero}
 use native.Mathlib.Omega.{arith}
 use borrow.Author.Tests.{eqb-true}
 use lib.Dec.{eqb}
 use lib.ListN.{length, getD, take, drop, replicate, length-drop}
 use lib.Seq.{drop-drop, take-all}
 use Rattle.base.specs.Bytes.{two, four, twoAt, fourAt, le2, le4}
-use Rattle.base.specs.Lists.{fill, flat}
 use Rattle.base.proofs.Bytes.{le2-two, le4-four}
 use Rattle.base.proofs.Fill.{fill-at}
 use Rattle.base.proofs.Flat.{flat-front}
 use Rattle.base.proofs.Tests.{and-left, and-right}
 use Rattle.base.proofs.Windows.{from, window, fill-window, in-four}
-use Rattle.codes.specs.declared.Record.{Record}
-use Rattle.layout.specs.Trailer.{trailerAt, toLabels, toMiddle, toFront, trailerGood, frontBytes, middleBytes, labelBytes, trailerBytes}
-use Rattle.layout.proofs.Found.{Trailer, rules, fills}
-use Rattle.netlist.specs.declared.Netlist.{Netlist}
+use Rattle.layout.specs.Trailer.{trailerAt, trailerGood, frontBytes, middleBytes, labelBytes, trailerBytes}
+use Rattle.layout.proofs.Found.{rules, fills}
 use Rattle.netlist.specs.Netlists.{recordOf, outputOf, labelsOf}
 use Rattle.netlist.proofs.Numbers.{Within}
 use Rattle.net_sheet.specs.Image.{recordBytes, recordSection, outputSection, netLetter, netImage}

@@ -1,22 +1,21 @@
 -- What reading and then writing leaves, by cases: refused by the reader, no room, or the same bytes.
-use mathlib.Core.Path.{_≡_, refl, sym, _∙_, ap}
+use mathlib.Core.Path.{_≡_, refl, _∙_}
 use mathlib.Core.Bool.{Bool, true, false}
 use mathlib.Core.List.{List}
-use Prim.Native.Nat.{ℕ, _≤_, _<_}
+use Prim.Native.Nat.{ℕ}
 use native.Mathlib.Omega.{arith}
 use borrow.Author.Tests.{leb-true, leb-false, eq-eqb, ne-eqb}
-use lib.Dec.{leb, eqb}
+use lib.Dec.{leb}
 use lib.ListN.{length}
 use Rattle.base.specs.Checks.{answered}
 use Rattle.base.proofs.Verdicts.{whole-good}
-use Rattle.net_sheet.specs.Image.{netImage}
 use Rattle.net_sheet.specs.Reading.{netOf, netTrailerGood, sheetVerdict, netRead}
 use Rattle.net_sheet.specs.Writing.{netWrote, netWritten}
 use Rattle.net_sheet.proofs.Verdicts.{net-within, write-short, wrote-refused}
 use Rattle.net_trips.specs.Typed.{Bytes}
 use Rattle.net_trips.specs.Again.{copied, copiedInto, wroteAs}
 use Rattle.net_trips.proofs.Copies.{image-of}
-use Rattle.net_trips.proofs.Trips.{accepted, net-is, write-after-read}
+use Rattle.net_trips.proofs.Trips.{accepted, write-after-read}
 
 module _ (s old : List ℕ) where
   pub copy-refused : (netRead s .answer ≡ 0 → ⊥) → (wroteAs (netRead s .answer) (netRead s .place) 0 ≡ copied s (length old)) × (old ≡ copiedInto s old)

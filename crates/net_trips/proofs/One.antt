@@ -1,5 +1,5 @@
 -- Each promise determines its result, and what it leaves in a lent buffer: stated of the contracts as the source has them.
-use mathlib.Core.Path.{_≡_, sym, _∙_}
+use mathlib.Core.Path.{sym, _∙_}
 use denote.Ref.{now}
 use Rattle.base.specs.Promises.{OneOutcome}
 use Rattle.net_trips.proofs.copy_net.Kinds as copy-net-kinds

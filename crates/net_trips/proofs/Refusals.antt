@@ -1,14 +1,10 @@
 -- The exact refusals, from the shared laws on lists of checks, on first-bad searches and on label entries.
-use mathlib.Core.Path.{_≡_, refl, sym, _∙_, ap}
-use mathlib.Core.Bool.{Bool, true, false}
-use mathlib.Core.Logic.{_↔_}
-use mathlib.Core.List.{List}
-use Prim.Native.Nat.{ℕ, _<_, _≤_}
+use mathlib.Core.Path.{refl}
+use Prim.Native.Nat.{ℕ}
 use borrow.Author.Tests.{leb-false, lt-leb}
-use lib.Dec.{ltb, leb, lit≤}
+use lib.Dec.{ltb, lit≤}
 use lib.ListN.{length}
-use Rattle.base.specs.Checks.{whole, foundBy, Rising}
-use Rattle.base.specs.declared.Check.the-variants.{Bad}
+use Rattle.base.specs.Checks.{Rising}
 use Rattle.base.proofs.Exact.{exact}
 use Rattle.base.proofs.First.{lowest-bad}
 use Rattle.base.proofs.Verdicts.{whole-bad}
@@ -16,7 +12,7 @@ use Rattle.codes.specs.Records.{recordGood}
 use Rattle.layout.proofs.Meaning.{label-bad}
 use Rattle.netlist.specs.declared.Netlist.{Netlist}
 use Rattle.netlist.specs.Netlists.{recordOf, outputOf, labelsOf}
-use Rattle.netlist.specs.Checks.{numbersGood, netChecks}
+use Rattle.netlist.specs.Checks.{numbersGood}
 use Rattle.net_sheet.specs.Reading.{netOf, longEnough, netTrailerGood, sheetChecks, netRead}
 use Rattle.net_sheet.specs.Writing.{writeChecks, netWrote}
 use Rattle.net_sheet.proofs.Verdicts.{rising}

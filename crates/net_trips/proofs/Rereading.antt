@@ -1,14 +1,12 @@
 -- What writing and then reading leaves, by cases: refused by the writer, or the same netlist.
-use mathlib.Core.Path.{_≡_, refl, sym, _∙_, ap}
-use mathlib.Core.Bool.{Bool, true, false}
+use mathlib.Core.Path.{_≡_, _∙_, ap}
 use mathlib.Core.List.{List, _++_}
-use Prim.Native.Nat.{ℕ, _≤_, _<_}
-use native.Mathlib.Omega.{arith}
-use borrow.Author.Tests.{leb-true, leb-false, eq-eqb, ne-eqb}
-use lib.Dec.{leb, eqb, lit<}
+use Prim.Native.Nat.{ℕ, _≤_}
+use borrow.Author.Tests.{leb-true, eq-eqb, ne-eqb}
+use lib.Dec.{lit<}
 use lib.ListN.{length, take, drop}
 use lib.Seq.{take-append-seam}
-use Rattle.base.specs.Checks.{verdict, whole, AllGood}
+use Rattle.base.specs.Checks.{verdict}
 use Rattle.base.proofs.Verdicts.{all-good, good-all, whole-good}
 use Rattle.netlist.specs.declared.Netlist.{Netlist}
 use Rattle.netlist.specs.Netlists.{noNet}
@@ -17,7 +15,6 @@ use Rattle.net_sheet.specs.Image.{netImage}
 use Rattle.net_sheet.specs.Reading.{netRead}
 use Rattle.net_sheet.specs.Writing.{writeChecks, writeVerdict, netWrote, netWritten}
 use Rattle.net_trips.specs.Typed.{Typed}
-use Rattle.net_trips.specs.Trips.{trimmed}
 use Rattle.net_trips.specs.Again.{reread}
 use Rattle.net_trips.proofs.Refusals.{write-rising}
 use Rattle.net_trips.proofs.Trips.{read-after-write}

@@ -1,30 +1,27 @@
 -- The image of a netlist, read again: each number is found where the layout puts it, so the sheet's netlist is the netlist.
-use mathlib.Core.Path.{_≡_, refl, sym, _∙_, ap}
-use mathlib.Core.Bool.{Bool, true, _&&_}
-use mathlib.Core.List.{List, [], _∷_, _++_}
-use Prim.Native.Nat.{ℕ, zero, suc, _+_, _-_, _*_, _/_, _%_, _<_, _≤_}
-use native.Mathlib.Nat.{add-zero, add-assoc}
+use mathlib.Core.Path.{_≡_, refl, _∙_, ap}
+use mathlib.Core.Bool.{true}
+use mathlib.Core.List.{List, _++_}
+use Prim.Native.Nat.{ℕ, _+_, _*_, _/_, _%_, _<_, _≤_}
 use native.Mathlib.Omega.{arith}
 use borrow.Author.Tests.{eq-eqb, le-leb}
-use lib.Dec.{eqb, leb, lit<}
-use lib.ListN.{length, getD, take, drop, replicate, length-append, List·getD-append}
+use lib.Dec.{lit<}
+use lib.ListN.{length, getD, replicate, List·getD-append}
 use lib.Seq.{getD-append-add, getD-take}
-use Rattle.base.specs.Bytes.{two, four, twoAt, fourAt, le2, le4}
-use Rattle.base.specs.Lists.{fill, flat}
+use Rattle.base.specs.Bytes.{twoAt, fourAt, le2}
 use Rattle.base.proofs.Bytes.{two-le2, four-le4}
 use Rattle.base.proofs.Fill.{fill-same}
 use Rattle.base.proofs.Flat.{flat-at}
 use Rattle.base.proofs.Tests.{and-true}
-use Rattle.codes.specs.declared.Record.{Record}
 use Rattle.layout.specs.Trailer.{trailerAt, toLabels, toMiddle, toFront, trailerGood, frontBytes, middleBytes, labelBytes, trailerBytes}
 use Rattle.netlist.specs.declared.Netlist.{Netlist}
 use Rattle.netlist.specs.Netlists.{recordOf, outputOf, labelsOf}
 use Rattle.netlist.proofs.Numbers.{Within}
 use Rattle.net_sheet.specs.Image.{recordBytes, recordSection, outputSection, netLetter, netImage}
 use Rattle.net_sheet.specs.Reading.{recordAt, netFrom, netOf, netTrailerGood}
-use Rattle.net_sheet.proofs.Images.{records-length, outputs-length, labels-length, front-length, body-length, image-length}
-use Rattle.net_trips.specs.Typed.{Bytes, Typed}
-use Rattle.net_trips.specs.Trips.{trimmed, cleared}
+use Rattle.net_sheet.proofs.Images.{records-length, front-length, body-length, image-length}
+use Rattle.net_trips.specs.Typed.{Typed}
+use Rattle.net_trips.specs.Trips.{trimmed}
 
 module _ (n : Netlist) (ty : Typed n) (w : Within n) where
   abbrev tail : List ℕ

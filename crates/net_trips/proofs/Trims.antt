@@ -1,29 +1,29 @@
 -- What stands past a netlist's counts does not matter: the checks are good with zeros there, and a netlist with zeros there is its own.
 use mathlib.Core.Path.{_≡_, refl, sym, _∙_, ap}
-use mathlib.Core.Bool.{Bool, true, false, cond, _&&_, _||_}
-use mathlib.Core.List.{List, [], _∷_, _++_}
+use mathlib.Core.Bool.{Bool, true, false, _&&_, _||_}
+use mathlib.Core.List.{List}
 use Prim.Native.Nat.{ℕ, zero, suc, _+_, _<_, _≤_}
 use native.Mathlib.Omega.{arith}
 use borrow.Author.Tests.{ltb-true, eqb-true, leb-true, leb-false}
-use lib.Dec.{eqb, leb, ltb, lit<}
-use lib.ListN.{length, getD, take, drop, replicate, length-replicate, getD-replicate, List·getD-eq-default}
+use lib.Dec.{eqb, leb, ltb}
+use lib.ListN.{length, getD, take, replicate, length-replicate}
 use lib.Seq.{ext-getD}
 use Rattle.base.specs.Lists.{fill}
-use Rattle.base.specs.Checks.{lowest, AllGood}
+use Rattle.base.specs.Checks.{AllGood}
 use Rattle.base.proofs.Fill.{fill-same, fill-at, fill-past, fill-length}
 use Rattle.base.proofs.First.{lowest-good, good-lowest}
-use Rattle.base.proofs.Tests.{and-left, and-right, and-true}
+use Rattle.base.proofs.Tests.{and-left, and-right}
 use Rattle.base.proofs.Windows.{fill-window}
 use Rattle.codes.specs.declared.Record.{Record}
 use Rattle.codes.specs.declared.Row.{Row}
 use Rattle.codes.specs.Rows.{rowAt, placeOf}
-use Rattle.codes.specs.Records.{operandGood, fieldGood, fieldsGood, usesK, widthGood, widthsGood, recordGood}
+use Rattle.codes.specs.Records.{fieldGood, fieldsGood, usesK, widthGood, widthsGood, recordGood}
 use Rattle.layout.specs.Labels.{labelCheck}
 use Rattle.netlist.specs.declared.Netlist.{Netlist}
 use Rattle.netlist.specs.Netlists.{recordOf, outputOf, labelsOf}
 use Rattle.netlist.specs.Checks.{netChecks}
 use Rattle.netlist.proofs.Numbers.{Within}
-use Rattle.net_trips.specs.Typed.{Array, Typed}
+use Rattle.net_trips.specs.Typed.{Typed}
 use Rattle.net_trips.specs.Trips.{cleared, trimmed, ZerosFrom, Clean}
 
 -- a good field names a node, the unused one node 0

@@ -1,26 +1,21 @@
 -- The round trips of a net sheet, from the image of what was read and the netlist of what was written.
-use mathlib.Core.Path.{_≡_, refl, sym, _∙_, ap}
+use mathlib.Core.Path.{_≡_, refl, _∙_, ap}
 use mathlib.Core.Bool.{Bool, true, false, cond}
-use mathlib.Core.List.{List, _++_}
-use Prim.Native.Nat.{ℕ, _≤_, _<_}
+use mathlib.Core.List.{List}
+use Prim.Native.Nat.{ℕ, _≤_}
 use native.Mathlib.Omega.{arith}
 use borrow.Author.Tests.{leb-true, le-leb, eq-eqb, eqb-true}
 use lib.Dec.{eqb, lit<, lit≤}
-use lib.ListN.{length, drop}
-use Rattle.base.specs.Checks.{verdict, whole, done, AllGood}
-use Rattle.base.specs.Lists.{patch}
+use lib.ListN.{length}
+use Rattle.base.specs.Checks.{whole, done, AllGood}
 use Rattle.base.proofs.Patch.{patch-front}
 use Rattle.base.proofs.Verdicts.{all-good, good-all, whole-good}
-use Rattle.netlist.specs.declared.Netlist.{Netlist}
 use Rattle.netlist.specs.Netlists.{noNet}
-use Rattle.netlist.specs.Checks.{netChecks}
-use Rattle.netlist.proofs.Numbers.{Within}
 use Rattle.net_sheet.specs.Image.{netImage}
 use Rattle.net_sheet.specs.Reading.{netOf, netTrailerGood, sheetChecks, sheetVerdict, netRead}
-use Rattle.net_sheet.specs.Writing.{netWrote, netWritten}
 use Rattle.net_sheet.proofs.Verdicts.{rising, net-good, net-within, read-done, write-done, wrote-done}
 use Rattle.net_trips.specs.Typed.{Bytes, Typed}
-use Rattle.net_trips.specs.Trips.{WriteAfterRead, ReadAfterWrite, ReadAfterWriteClean, ReadIsClean, trimmed, Clean}
+use Rattle.net_trips.specs.Trips.{WriteAfterRead, ReadAfterWrite, ReadAfterWriteClean, ReadIsClean, Clean}
 use Rattle.net_trips.proofs.Copies.{image-of}
 use Rattle.net_trips.proofs.Rereads.{long-is, trailer-good, net-of-image}
 use Rattle.net_trips.proofs.Trims.{still-good, trimmed-same}

@@ -4,9 +4,9 @@ use mathlib.Core.List.{List, _++_}
 use Prim.Native.Nat.{ℕ}
 use lib.Dec.{eqb, leb}
 use lib.ListN.{length, drop}
-use Rattle.net_sheet.specs.declared.write.Wrote.{Wrote}
 use Rattle.netlist.specs.declared.Netlist.{Netlist}
 use Rattle.netlist.specs.Netlists.{noNet}
+use Rattle.net_sheet.specs.declared.write.Wrote.{Wrote}
 use Rattle.net_sheet.specs.declared.read.NetRead.{NetRead}
 use Rattle.net_sheet.specs.Reading.{sheetVerdict}
 use Rattle.net_sheet.specs.Writing.{writeVerdict}

@@ -5,6 +5,7 @@ use mathlib.Core.Logic.{_↔_}
 use mathlib.Core.List.{List}
 use Prim.Native.Nat.{ℕ, _<_}
 use lib.Dec.{ltb}
+use lib.ListN.{length}
 use Rattle.base.specs.Checks.{answered, foundBy, ExactAt, Lowest}
 use Rattle.base.specs.declared.Check.the-variants.{Bad}
 use Rattle.codes.specs.Records.{recordGood}
@@ -14,8 +15,6 @@ use Rattle.netlist.specs.Netlists.{recordOf, outputOf, labelsOf}
 use Rattle.netlist.specs.Checks.{numbersGood}
 use Rattle.net_sheet.specs.Reading.{netOf, netTrailerGood, sheetChecks, sheetVerdict, netRead}
 use Rattle.net_sheet.specs.Writing.{writeChecks, writeVerdict, netWrote}
-use Rattle.net_sheet.specs.Image.{netImage}
-use lib.ListN.{length}
 
 -- For each number 1 to 6, check j having the number 1 + j: the answer is that number, with the place p, if and only if all checks before are good and this one finds p.
 abbrev pub ReadExact : Type 0

@@ -1,9 +1,9 @@
 -- Check 3 as bounds on the counts.
 use mathlib.Core.Path.{_≡_}
 use mathlib.Core.Bool.{true}
-use Prim.Native.Nat.{ℕ, _≤_}
-use lib.Dec.{leb}
+use Prim.Native.Nat.{_≤_}
 use borrow.Author.Tests.{leb-true}
+use lib.Dec.{leb}
 use Rattle.base.proofs.Tests.{and-four}
 use Rattle.netlist.specs.declared.Netlist.{Netlist}
 use Rattle.netlist.specs.Checks.{numbersGood}

@@ -1,5 +1,5 @@
 -- Each promise determines its result, and what it leaves in a lent buffer: stated of the contracts as the source has them.
-use mathlib.Core.Path.{_≡_, sym, _∙_}
+use mathlib.Core.Path.{sym, _∙_}
 use Rattle.base.specs.Promises.{OneResult}
 use Rattle.netlist.proofs.no_net.Kinds as no-net-kinds
 use Rattle.netlist.proofs.no_net.Reads as no-net

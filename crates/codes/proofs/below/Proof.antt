@@ -1,15 +1,12 @@
-use Rattle.base.proofs.Widths.{one-shl}
+-- `codes::below` meets its contract. The shift makes 2 ^ w itself, w being at most 32.
 use borrow.Author.Needs.{needs}
+use Rattle.base.proofs.Widths.{one-shl}
 use Rattle.codes.proofs.below.Statement.{statement}
 use Rattle.codes.proofs.below.Tie as tie
-use Rattle.codes.proofs.below.Reads as reads
-use Rattle.codes.proofs.below.Lts as lts
 
--- src/lib.rt:142:19
 shl-result : tie.Need-shl-result
 shl-result c = search needs
 
--- src/lib.rt:138:1
 returns : tie.Need-returns
 returns c = rw (one-shl (c .args .w) (c .pre))
 

@@ -1,51 +1,37 @@
-use native.Mathlib.Omega.{arith}
+-- `codes::record_good` meets its contract. The definition's tests in its order: each return is the first that fails.
 use borrow.Author.Tests.{lt-ltb, le-ltb, lt-leb, le-leb, not-true, not-false}
-use Rattle.codes.specs.Records.{recordGood}
 use borrow.Author.Needs.{needs}
+use Rattle.codes.specs.Records.{recordGood}
 use Rattle.codes.proofs.record_good.Statement.{statement}
 use Rattle.codes.proofs.record_good.Tie as tie
-use Rattle.codes.proofs.record_good.Reads as reads
-use Rattle.codes.proofs.record_good.Lts as lts
-use Rattle.codes.proofs.fields_good.Reads as fields-good-reads
-use Rattle.codes.proofs.row_at.Reads as row-at-reads
-use Rattle.codes.proofs.row_place.Reads as row-place-reads
-use Rattle.codes.proofs.width_at.Reads as width-at-reads
-use Rattle.codes.proofs.widths_good.Reads as widths-good-reads
 
--- src/lib.rt:185:9
 row-place-requires : tie.Need-row-place-requires
 row-place-requires c κs = search needs
 
--- src/lib.rt:187:9
 returns : tie.Need-returns
 unfolding recordGood
 returns c =
     let r = c .before .row-place in
     rw (← r .ensures, le-ltb (r .result) 19 (c .if1 .taken))
 
--- src/lib.rt:189:9
 row-at-requires : tie.Need-row-at-requires
 row-at-requires c κs = search needs
 
--- src/lib.rt:192:9
 returns-2 : tie.Need-returns-2
 unfolding recordGood
 returns-2 c =
     let r = c .before .before .before .row-place in
     rw (← r .ensures, lt-ltb (r .result) 19 (c .before .before .if1 .left), lt-leb 1 _ (c .if2 .taken))
 
--- src/lib.rt:195:9
 returns-3 : tie.Need-returns-3
 unfolding recordGood
 returns-3 c =
     let r = c .before .before .before .before .row-place in
     rw (← r .ensures, lt-ltb (r .result) 19 (c .before .before .before .if1 .left), le-leb 1 _ (c .before .if2 .left), lt-leb _ 32 (c .if3 .taken))
 
--- src/lib.rt:197:9
 fields-good-requires : tie.Need-fields-good-requires
 fields-good-requires c κs = search needs
 
--- src/lib.rt:198:9
 returns-4 : tie.Need-returns-4
 unfolding recordGood
 returns-4 c =
@@ -62,23 +48,18 @@ returns-4 c =
       not-true (f .result) (c .if4 .taken),
     )
 
--- src/lib.rt:201:26
 width-at-requires : tie.Need-width-at-requires
 width-at-requires c κs = search needs
 
--- src/lib.rt:201:48
 width-at-requires-2 : tie.Need-width-at-requires-2
 width-at-requires-2 c κs = search needs
 
--- src/lib.rt:201:70
 width-at-requires-3 : tie.Need-width-at-requires-3
 width-at-requires-3 c κs = search needs
 
--- src/lib.rt:201:5
 widths-good-requires : tie.Need-widths-good-requires
 widths-good-requires c κs = search needs
 
--- src/lib.rt:182:1
 returns-5 : tie.Need-returns-5
 unfolding recordGood
 returns-5 c =

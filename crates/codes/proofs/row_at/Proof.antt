@@ -1,20 +1,16 @@
-use mathlib.Core.Path.{_≡_, refl}
-use Rattle.codes.specs.Rows.{rows}
+-- `codes::row_at` meets its contract. The code's table is the definition's, row by row, so it computes.
+use mathlib.Core.Path.{refl}
 use borrow.Author.Needs.{needs}
+use Rattle.codes.specs.Rows.{rows}
 use Rattle.codes.proofs.row_at.Statement.{statement}
 use Rattle.codes.proofs.row_at.Tie as tie
-use Rattle.codes.proofs.row_at.Reads as reads
-use Rattle.codes.proofs.row_at.Lts as lts
 
--- src/lib.rt:96:5
 mul-result : tie.Need-mul-result
 mul-result c = search needs
 
--- src/lib.rt:96:5
 array-copy-out-result : tie.Need-array-copy-out-result
 array-copy-out-result c = search needs
 
--- src/lib.rt:92:1
 returns : tie.Need-returns
 unfolding rows
 returns c = refl

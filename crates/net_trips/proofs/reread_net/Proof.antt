@@ -1,27 +1,19 @@
+-- `net_trips::reread_net` meets its contract. What was read back is the netlist that was written; its values are of their types because it was handed over.
+use mathlib.Core.Path.{_≡_, sym, _∙_, ap}
+use Prim.Native.Nat.{ℕ, _-_, _≤_}
+use native.Mathlib.Omega.{arith}
+use borrow.Author.Needs.{needs}
 use mir.Syntax.{w8, w16, w32}
 use mir.Val.{Fits}
+use denote.Ref.{now}
+use lib.ListN.{length, getD, take}
 use Rattle.netlist.specs.Netlists.{noNet}
 use Rattle.net_sheet.specs.Reading.{netRead}
+use Rattle.net_sheet.specs.Writing.{netWrote}
 use Rattle.net_trips.specs.Typed.{Typed}
-use mathlib.Core.Path.{_≡_, refl, sym, _∙_, ap}
-use Prim.Native.Nat.{ℕ, suc, _+_, _*_, _-_, _<_, _≤_}
-use native.Mathlib.Omega.{arith}
-use lib.ListN.{length, getD, set, take, drop}
-use borrow.Author.Tests.{lt-ltb, le-ltb, lt-leb, le-leb, eq-eqb, ne-eqb, ltb-true, ltb-false, leb-true, leb-false, eqb-true, eqb-false, not-true, not-false}
-use native.Mathlib.Numerals.{add-one}
-use denote.Ref.{now}
-use lib.ListN.{length-append}
-use Rattle.net_sheet.specs.Image.{netImage}
-use Rattle.net_sheet.specs.Writing.{netWrote, netWritten}
 use Rattle.net_trips.proofs.Rereading.{reread-refused, wrote, reread-done}
-use borrow.Author.Needs.{needs}
 use Rattle.net_trips.proofs.reread_net.Statement.{statement}
 use Rattle.net_trips.proofs.reread_net.Tie as tie
-use Rattle.net_trips.proofs.reread_net.Reads as reads
-use Rattle.net_trips.proofs.reread_net.Lts as lts
-use Rattle.net_sheet.proofs.read_net.Reads as read-net-reads
-use Rattle.net_sheet.proofs.write_net.Reads as write-net-reads
-use Rattle.netlist.proofs.no_net.Reads as no-net-reads
 
 -- a netlist that is handed over has values of its types
 code-long : (s : tie.Start) → length (s .args .net .code) ≡ 1024
@@ -85,19 +77,15 @@ typed s =
       label = record { long = label-long s; each = λ i. label-each s i .fits };
     }
 
--- src/lib.rt:28:9
 write-net-requires : tie.Need-write-net-requires
 write-net-requires c κs = search needs
 
--- src/lib.rt:31:29
 sub-read-net : tie.Need-sub-read-net
 sub-read-net c = search needs
 
--- src/lib.rt:31:29
 part-read-net-start : tie.Need-part-read-net-start
 part-read-net-start c = search needs
 
--- src/lib.rt:31:29
 part-read-net-end : tie.Need-part-read-net-end
 part-read-net-end c =
     let a = c .before .before .before .before .before .before .before .before .args in
@@ -109,19 +97,15 @@ part-read-net-end c =
     let h : w .result .length ≤ length (w .last .1 .0) = omega (arith, d .size, d .room, w .kept .1 .0) in
     h
 
--- src/lib.rt:31:9
 read-net-requires : tie.Need-read-net-requires
 read-net-requires c κs = search needs
 
--- src/lib.rt:33:13
 no-net-requires : tie.Need-no-net-requires
 no-net-requires c κs = search needs
 
--- src/lib.rt:25:1
 same-length : tie.Need-same-length
 same-length c = search needs
 
--- src/lib.rt:25:1
 returns : tie.Need-returns
 returns c =
     let a = c .before .before .before .before .before .before .before .before .before .before .args in
@@ -137,11 +121,9 @@ returns c =
       w .ensures .1,
     )
 
--- src/lib.rt:25:1
 same-length-2 : tie.Need-same-length-2
 same-length-2 c = search needs
 
--- src/lib.rt:25:1
 returns-2 : tie.Need-returns-2
 returns-2 c =
     let a = c .before .before .before .before .before .before .before .before .args in

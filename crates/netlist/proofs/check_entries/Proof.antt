@@ -1,38 +1,28 @@
-use mathlib.Core.Path.{_≡_, refl, sym, _∙_, ap}
-use Rattle.base.proofs.Verdicts.{verdict-good, verdict-bad, verdict-done}
+-- `netlist::check_entries` meets its contract. The checks in their order: each return is the first that is not good.
+use mathlib.Core.Path.{sym, _∙_}
 use borrow.Author.Needs.{needs}
+use Rattle.base.proofs.Verdicts.{verdict-good, verdict-bad, verdict-done}
 use Rattle.netlist.proofs.check_entries.Statement.{statement}
 use Rattle.netlist.proofs.check_entries.Tie as tie
-use Rattle.netlist.proofs.check_entries.Reads as reads
-use Rattle.netlist.proofs.check_entries.Lts as lts
-use Rattle.netlist.proofs.check_front.Reads as check-front-reads
-use Rattle.netlist.proofs.check_outputs.Reads as check-outputs-reads
-use Rattle.netlist.proofs.check_records.Reads as check-records-reads
 
--- src/lib.rt:115:9
 check-records-requires : tie.Need-check-records-requires
 check-records-requires c κs = search needs
 
--- src/lib.rt:116:29
 enum-known-records : tie.Need-enum-known-records
 enum-known-records c = search needs
 
--- src/lib.rt:117:9
 returns : tie.Need-returns
 returns c = sym (verdict-bad 4 _ _ _ (sym (c .before .before .before .check-records .ensures) ∙ c .before .records .given .1))
 
 enum-told : tie.Need-enum-told
 enum-told c = search needs
 
--- src/lib.rt:119:9
 check-outputs-requires : tie.Need-check-outputs-requires
 check-outputs-requires c κs = search needs
 
--- src/lib.rt:120:29
 enum-known-outs : tie.Need-enum-known-outs
 enum-known-outs c = search needs
 
--- src/lib.rt:121:9
 returns-2 : tie.Need-returns-2
 returns-2 c =
     sym
@@ -42,15 +32,12 @@ returns-2 c =
 enum-told-2 : tie.Need-enum-told-2
 enum-told-2 c = search needs
 
--- src/lib.rt:123:9
 check-front-requires : tie.Need-check-front-requires
 check-front-requires c κs = search needs
 
--- src/lib.rt:124:29
 enum-known-entries : tie.Need-enum-known-entries
 enum-known-entries c = search needs
 
--- src/lib.rt:125:9
 returns-3 : tie.Need-returns-3
 returns-3 c =
     sym
@@ -61,7 +48,6 @@ returns-3 c =
 enum-told-3 : tie.Need-enum-told-3
 enum-told-3 c = search needs
 
--- src/lib.rt:108:1
 returns-4 : tie.Need-returns-4
 returns-4 c =
     sym

@@ -1,21 +1,16 @@
-use Rattle.layout.specs.Labels.{entryGood}
+-- `layout::labels::check_labels` meets its contract. The search from here on is the whole search; a good entry lies within the section, so the next one begins further on.
 use mathlib.Core.Bool.{true}
-use mathlib.Core.Path.{_≡_, refl, sym, _∙_, ap}
-use Prim.Native.Nat.{ℕ, suc, _+_, _*_, _-_, _<_, _≤_}
+use mathlib.Core.Path.{_≡_, sym, _∙_}
+use Prim.Native.Nat.{_+_, _-_, _≤_}
 use native.Mathlib.Omega.{arith}
 use borrow.Author.Needs.{needs}
-use lib.ListN.{length, getD, set, take, drop}
-use borrow.Author.Tests.{lt-ltb, le-ltb, lt-leb, le-leb, eq-eqb, ne-eqb, ltb-true, ltb-false, leb-true, leb-false, eqb-true, eqb-false, not-true, not-false}
-use native.Mathlib.Numerals.{add-one}
+use borrow.Author.Tests.{not-true, not-false}
 use denote.Ref.{now}
-use Rattle.layout.specs.Labels.{labelsFrom, labelCheck, entryNode, entryEnd}
+use lib.ListN.{length}
+use Rattle.layout.specs.Labels.{entryGood, labelsFrom, labelCheck, entryEnd}
 use Rattle.layout.proofs.Entries.{entry-within, labels-start, labels-bad, labels-next, labels-end}
 use Rattle.layout.proofs.labels.check_labels.Statement.{statement}
 use Rattle.layout.proofs.labels.check_labels.Tie as tie
-use Rattle.layout.proofs.labels.check_labels.Reads as reads
-use Rattle.layout.proofs.labels.check_labels.Lts as lts
-use Rattle.base.proofs.le16.Reads as le16-reads
-use Rattle.layout.proofs.labels.entry_good.Reads as entry-good-reads
 
 abbrev Inv-loop : tie.InvT-loop
 Inv-loop s nodes i₀ least₀ entry₀ i least entry = (i ≤ length s) × (entry ≤ i) × (labelsFrom (length s - entry) nodes s i least entry ≡ labelCheck nodes s)
@@ -23,15 +18,12 @@ Inv-loop s nodes i₀ least₀ entry₀ i least entry = (i ≤ length s) × (ent
 abbrev μ-loop : tie.MeasureT-loop
 μ-loop s nodes i₀ least₀ entry₀ i least entry = length s - i
 
--- src/labels.rt:50:5
 loop-holds : tie.Need-loop-holds Inv-loop μ-loop
 loop-holds c = (search needs, search needs, labels-start (c .before .args .nodes) (now (c .before .args .s)) 0 0 0)
 
--- src/labels.rt:51:13
 entry-good-requires : tie.Need-entry-good-requires Inv-loop μ-loop
 entry-good-requires c κs = search needs
 
--- src/labels.rt:52:13
 returns : tie.Need-returns Inv-loop μ-loop
 returns c =
     let v = c .before .before .before .loop in
@@ -39,15 +31,12 @@ returns c =
     sym (labels-bad (a .nodes) (now (a .s)) (v .i) (v .least) (v .entry) (omega arith) (c .before .before .loop-test .taken) (sym (c .before .entry-good .ensures) ∙ not-true _ (c .if1 .taken)))
     ∙ v .inv .2
 
--- src/labels.rt:54:28
 shared-slice-read-le16 : tie.Need-shared-slice-read-le16 Inv-loop μ-loop
 shared-slice-read-le16 c = search needs
 
--- src/labels.rt:54:36
 add-le16 : tie.Need-add-le16 Inv-loop μ-loop
 add-le16 c = search needs
 
--- src/labels.rt:54:34
 shared-slice-read-le16-2 : tie.Need-shared-slice-read-le16-2 Inv-loop μ-loop
 shared-slice-read-le16-2 c =
     let x = c .before .before in
@@ -57,19 +46,15 @@ shared-slice-read-le16-2 c =
     let h : entryEnd (now (a .s)) (v .i) ≤ length (now (a .s)) = entry-within (a .nodes) (v .least) (now (a .s)) (v .i) g in
     omega arith
 
--- src/labels.rt:54:17
 le16-requires : tie.Need-le16-requires Inv-loop μ-loop
 le16-requires c κs = search needs
 
--- src/labels.rt:54:17
 cast-least : tie.Need-cast-least Inv-loop μ-loop
 cast-least c = search needs
 
--- src/labels.rt:54:17
 add-least : tie.Need-add-least Inv-loop μ-loop
 add-least c = search needs
 
--- src/labels.rt:55:13
 add-i : tie.Need-add-i Inv-loop μ-loop
 add-i c =
     let x = c .before .before .before in
@@ -79,7 +64,6 @@ add-i c =
     let h : entryEnd (now (a .s)) (v .i) ≤ length (now (a .s)) = entry-within (a .nodes) (v .least) (now (a .s)) (v .i) g in
     omega arith
 
--- src/labels.rt:55:23
 add-i-2 : tie.Need-add-i-2 Inv-loop μ-loop
 add-i-2 c =
     let x = c .before .before .before in
@@ -89,7 +73,6 @@ add-i-2 c =
     let h : entryEnd (now (a .s)) (v .i) ≤ length (now (a .s)) = entry-within (a .nodes) (v .least) (now (a .s)) (v .i) g in
     omega arith
 
--- src/labels.rt:55:21
 shared-slice-read-i : tie.Need-shared-slice-read-i Inv-loop μ-loop
 shared-slice-read-i c =
     let x = c .before .before .before .before in
@@ -99,11 +82,9 @@ shared-slice-read-i c =
     let h : entryEnd (now (a .s)) (v .i) ≤ length (now (a .s)) = entry-within (a .nodes) (v .least) (now (a .s)) (v .i) g in
     omega arith
 
--- src/labels.rt:55:21
 cast-i : tie.Need-cast-i Inv-loop μ-loop
 cast-i c = omega (arith, c .shared-slice-known4 .given (c .before .before .before .before .before .before .before .loop .i + 2))
 
--- src/labels.rt:55:13
 add-i-3 : tie.Need-add-i-3 Inv-loop μ-loop
 add-i-3 c =
     let x = c .before .before .before .before in
@@ -113,11 +94,9 @@ add-i-3 c =
     let h : entryEnd (now (a .s)) (v .i) ≤ length (now (a .s)) = entry-within (a .nodes) (v .least) (now (a .s)) (v .i) g in
     omega arith
 
--- src/labels.rt:56:9
 add-entry : tie.Need-add-entry Inv-loop μ-loop
 add-entry c = search needs
 
--- src/labels.rt:50:5
 loop-less : tie.Need-loop-less Inv-loop μ-loop
 loop-less c =
     let x = c .before .before .before .before in
@@ -127,7 +106,6 @@ loop-less c =
     let h : entryEnd (now (a .s)) (v .i) ≤ length (now (a .s)) = entry-within (a .nodes) (v .least) (now (a .s)) (v .i) g in
     omega arith
 
--- src/labels.rt:50:5
 loop-again : tie.Need-loop-again Inv-loop μ-loop
 loop-again c =
     let x = c .before .before .before .before in
@@ -137,7 +115,6 @@ loop-again c =
     let h : entryEnd (now (a .s)) (v .i) ≤ length (now (a .s)) = entry-within (a .nodes) (v .least) (now (a .s)) (v .i) g in
     (h, omega arith, rw (c .before .le16 .ensures) (sym (labels-next (a .nodes) (now (a .s)) (v .i) (v .least) (v .entry) (omega arith) (x .before .before .loop-test .taken) g) ∙ v .inv .2))
 
--- src/labels.rt:44:1
 returns-2 : tie.Need-returns-2 Inv-loop μ-loop
 returns-2 c =
     let v = c .before .loop in

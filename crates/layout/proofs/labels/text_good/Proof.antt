@@ -1,17 +1,16 @@
-use mathlib.Core.Path.{_≡_, refl, sym, _∙_, ap}
-use Prim.Native.Nat.{ℕ, suc, _+_, _*_, _-_, _<_, _≤_}
+-- `layout::labels::text_good` meets its contract. The bytes passed so far are text; the first that is not makes the test false.
+use mathlib.Core.Path.{_≡_, refl, sym}
+use mathlib.Core.Bool.{true}
+use Prim.Native.Nat.{_+_, _-_, _≤_}
 use native.Mathlib.Omega.{arith}
 use borrow.Author.Needs.{needs}
-use lib.ListN.{length, getD, set, take, drop}
-use mathlib.Core.Bool.{Bool, true, false, _&&_, _||_}
-use borrow.Author.Tests.{lt-ltb, le-ltb, lt-leb, le-leb, eq-eqb, ne-eqb, ltb-true, ltb-false, leb-true, leb-false, eqb-true, eqb-false, not-true, not-false}
-use Rattle.layout.specs.Labels.{textByte, textGood}
+use borrow.Author.Tests.{not-true, not-false}
+use lib.ListN.{getD}
 use Rattle.base.specs.Checks.{every}
-use Rattle.base.proofs.Tests.{every-true, every-false, every-step}
+use Rattle.base.proofs.Tests.{every-false, every-step}
+use Rattle.layout.specs.Labels.{textByte, textGood}
 use Rattle.layout.proofs.labels.text_good.Statement.{statement}
 use Rattle.layout.proofs.labels.text_good.Tie as tie
-use Rattle.layout.proofs.labels.text_good.Reads as reads
-use Rattle.layout.proofs.labels.text_good.Lts as lts
 
 abbrev Inv-loop : tie.InvT-loop
 Inv-loop s i n j₀ j = (j ≤ n) × (every (λ k. textByte (getD s (i + k) 0)) j ≡ true)
@@ -19,40 +18,32 @@ Inv-loop s i n j₀ j = (j ≤ n) × (every (λ k. textByte (getD s (i + k) 0)) 
 abbrev μ-loop : tie.MeasureT-loop
 μ-loop s i n j₀ j = n - j
 
--- src/labels.rt:13:5
 loop-holds : tie.Need-loop-holds Inv-loop μ-loop
 loop-holds c = (search needs, refl)
 
--- src/labels.rt:14:19
 add-b : tie.Need-add-b Inv-loop μ-loop
 add-b c = search needs
 
--- src/labels.rt:14:17
 shared-slice-read-b : tie.Need-shared-slice-read-b Inv-loop μ-loop
 shared-slice-read-b c = search needs
 
--- src/labels.rt:16:13
 returns : tie.Need-returns Inv-loop μ-loop
 unfolding textGood
 returns c =
     let d = c .before .before .before in
     sym (every-false _ _ (d .loop .j) (c .before .before .loop-test .taken) (not-true _ (c .if1 .taken)))
 
--- src/labels.rt:18:9
 add-j : tie.Need-add-j Inv-loop μ-loop
 add-j c = search needs
 
--- src/labels.rt:13:5
 loop-less : tie.Need-loop-less Inv-loop μ-loop
 loop-less c = search needs
 
--- src/labels.rt:13:5
 loop-again : tie.Need-loop-again Inv-loop μ-loop
 loop-again c =
     let d = c .before .before .before in
     (search needs, every-step _ (d .loop .j) (d .loop .inv .1) (not-false _ (c .if1 .left)))
 
--- src/labels.rt:8:1
 returns-2 : tie.Need-returns-2 Inv-loop μ-loop
 unfolding textGood
 returns-2 c =

@@ -1,18 +1,16 @@
+-- `layout::write::put_bytes` meets its contract. The image is the old one with the first j bytes pasted in.
+use mathlib.Core.Path.{_≡_}
+use Prim.Native.Nat.{_+_, _-_, _≤_}
+use native.Mathlib.Omega.{arith}
+use native.Mathlib.Numerals.{add-one}
+use borrow.Author.Needs.{needs}
+use borrow.Author.Tests.{lt-leb, le-leb}
 use denote.Ref.{now}
 use lib.Seq.{paste, paste-zero, paste-suc, length-paste}
+use lib.ListN.{length}
 use Rattle.base.proofs.Patch.{paste-patch}
-use mathlib.Core.Path.{_≡_, refl, sym, _∙_, ap}
-use Prim.Native.Nat.{ℕ, suc, _+_, _*_, _-_, _<_, _≤_}
-use native.Mathlib.Omega.{arith}
-use borrow.Author.Needs.{needs}
-use lib.ListN.{length, getD, set, take, drop}
-use borrow.Author.Tests.{lt-ltb, le-ltb, lt-leb, le-leb, eq-eqb, ne-eqb, ltb-true, ltb-false, leb-true, leb-false, eqb-true, eqb-false, not-true, not-false}
-use native.Mathlib.Numerals.{add-one}
-use lib.Seq.{paste, paste-zero, paste-suc, length-paste, take-length}
 use Rattle.layout.proofs.write.put_bytes.Statement.{statement}
 use Rattle.layout.proofs.write.put_bytes.Tie as tie
-use Rattle.layout.proofs.write.put_bytes.Reads as reads
-use Rattle.layout.proofs.write.put_bytes.Lts as lts
 
 abbrev Inv-loop : tie.InvT-loop
 Inv-loop image₀ at from j₀ image j = (j ≤ length from) × (image ≡ paste image₀ at from j)
@@ -20,60 +18,48 @@ Inv-loop image₀ at from j₀ image j = (j ≤ length from) × (image ≡ paste
 abbrev μ-loop : tie.MeasureT-loop
 μ-loop image₀ at from j₀ image j = length from - j
 
--- src/write.rt:10:9
 returns : tie.Need-returns Inv-loop μ-loop
 returns c = rw (lt-leb (c .before .args .at + length (now (c .before .args .from))) (length (now (c .before .args .image))) (omega arith))
 
--- src/write.rt:12:8
 sub-if2 : tie.Need-sub-if2 Inv-loop μ-loop
 sub-if2 c = search needs
 
--- src/write.rt:13:9
 returns-2 : tie.Need-returns-2 Inv-loop μ-loop
 returns-2 c = rw (lt-leb (c .before .before .args .at + length (now (c .before .before .args .from))) (length (now (c .before .before .args .image))) (omega arith))
 
--- src/write.rt:16:5
 loop-holds : tie.Need-loop-holds Inv-loop μ-loop
 loop-holds c = (search needs, paste-zero _ (c .before .before .args .at) (now (c .before .before .args .from)))
 
--- src/write.rt:17:25
 shared-slice-read-image : tie.Need-shared-slice-read-image Inv-loop μ-loop
 shared-slice-read-image c = search needs
 
--- src/write.rt:17:15
 add-image : tie.Need-add-image Inv-loop μ-loop
 add-image c = search needs
 
--- src/write.rt:17:9
 slice-write-image : tie.Need-slice-write-image Inv-loop μ-loop
 slice-write-image c =
     let a = c .before .before .before .before .before .args in
     let v = c .before .before .loop .inv in
     rw (v .1, length-paste (now (a .image)) (a .at) (now (a .from)) (c .before .before .loop .j) (omega arith) (omega arith)) (omega arith)
 
--- src/write.rt:18:9
 add-j : tie.Need-add-j Inv-loop μ-loop
 add-j c = search needs
 
--- src/write.rt:16:5
 loop-less : tie.Need-loop-less Inv-loop μ-loop
 loop-less c = search needs
 
--- src/write.rt:16:5
 loop-again : tie.Need-loop-again Inv-loop μ-loop
 loop-again c =
     let a = c .before .before .before .before .before .args in
     let v = c .before .before .loop .inv in
     (search needs, rw (v .1, add-one (c .before .before .loop .j)) (paste-suc (now (a .image)) (a .at) (now (a .from)) (c .before .before .loop .j) 0 (omega arith) (omega arith)))
 
--- src/write.rt:6:1
 same-length : tie.Need-same-length Inv-loop μ-loop
 same-length c =
     let a = c .before .before .before .before .args in
     let v = c .before .loop .inv in
     rw (v .1) (length-paste (now (a .image)) (a .at) (now (a .from)) (c .before .loop .j) (omega arith) (omega arith))
 
--- src/write.rt:6:1
 returns-3 : tie.Need-returns-3 Inv-loop μ-loop
 returns-3 c =
     let a = c .before .before .before .before .args in

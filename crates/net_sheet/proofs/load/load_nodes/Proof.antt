@@ -1,20 +1,13 @@
-use Rattle.codes.specs.declared.Record.{Record}
-use mathlib.Core.Path.{_≡_, refl, sym, _∙_, ap}
-use Prim.Native.Nat.{ℕ, suc, _+_, _*_, _-_, _<_, _≤_}
+-- `net_sheet::load::load_nodes` meets its contract. Each of the six lists is filled so far from the sheet's records.
+use mathlib.Core.Path.{_≡_, ap}
+use Prim.Native.Nat.{_-_, _≤_}
 use native.Mathlib.Omega.{arith}
 use borrow.Author.Needs.{needs}
-use lib.ListN.{length, getD, set, take, drop}
-use borrow.Author.Tests.{lt-ltb, le-ltb, lt-leb, le-leb, eq-eqb, ne-eqb, ltb-true, ltb-false, leb-true, leb-false, eqb-true, eqb-false, not-true, not-false}
-use native.Mathlib.Numerals.{add-one}
-use denote.Ref.{now}
 use Rattle.base.specs.Lists.{fill}
 use Rattle.base.proofs.Fill.{fill-none, fill-step, fill-end}
 use Rattle.net_sheet.specs.Reading.{recordAt}
 use Rattle.net_sheet.proofs.load.load_nodes.Statement.{statement}
 use Rattle.net_sheet.proofs.load.load_nodes.Tie as tie
-use Rattle.net_sheet.proofs.load.load_nodes.Reads as reads
-use Rattle.net_sheet.proofs.load.load_nodes.Lts as lts
-use Rattle.net_sheet.proofs.load.record_at.Reads as record-at-reads
 
 abbrev Inv-loop : tie.InvT-loop
 Inv-loop sheet n code₀ width₀ a₀ b₀ c₀ k₀ i₀ code width a b c k i =
@@ -29,63 +22,48 @@ Inv-loop sheet n code₀ width₀ a₀ b₀ c₀ k₀ i₀ code width a b c k i 
 abbrev μ-loop : tie.MeasureT-loop
 μ-loop sheet n code₀ width₀ a₀ b₀ c₀ k₀ i₀ code width a b c k i = n - i
 
--- src/load.rt:40:5
 loop-holds : tie.Need-loop-holds Inv-loop μ-loop
 loop-holds c = (search needs, fill-none _ _, fill-none _ _, fill-none _ _, fill-none _ _, fill-none _ _, fill-none _ _)
 
--- src/load.rt:41:13
 record-at-requires : tie.Need-record-at-requires Inv-loop μ-loop
 record-at-requires c κs = search needs
 
--- src/load.rt:42:9
 element-write-code : tie.Need-element-write-code Inv-loop μ-loop
 element-write-code c = search needs
 
--- src/load.rt:43:9
 element-write-width : tie.Need-element-write-width Inv-loop μ-loop
 element-write-width c = search needs
 
--- src/load.rt:44:9
 mul-a : tie.Need-mul-a Inv-loop μ-loop
 mul-a c = search needs
 
--- src/load.rt:44:9
 element-write-a : tie.Need-element-write-a Inv-loop μ-loop
 element-write-a c = search needs
 
--- src/load.rt:45:9
 mul-b : tie.Need-mul-b Inv-loop μ-loop
 mul-b c = search needs
 
--- src/load.rt:45:9
 element-write-b : tie.Need-element-write-b Inv-loop μ-loop
 element-write-b c = search needs
 
--- src/load.rt:46:9
 mul-c : tie.Need-mul-c Inv-loop μ-loop
 mul-c c = search needs
 
--- src/load.rt:46:9
 element-write-c : tie.Need-element-write-c Inv-loop μ-loop
 element-write-c c = search needs
 
--- src/load.rt:47:9
 mul-k : tie.Need-mul-k Inv-loop μ-loop
 mul-k c = search needs
 
--- src/load.rt:47:9
 element-write-k : tie.Need-element-write-k Inv-loop μ-loop
 element-write-k c = search needs
 
--- src/load.rt:48:9
 add-i : tie.Need-add-i Inv-loop μ-loop
 add-i c = search needs
 
--- src/load.rt:40:5
 loop-less : tie.Need-loop-less Inv-loop μ-loop
 loop-less c = search needs
 
--- src/load.rt:40:5
 loop-again : tie.Need-loop-again Inv-loop μ-loop
 loop-again c =
     let v = c .before .before .loop .inv in
@@ -99,7 +77,6 @@ loop-again c =
       fill-step _ _ _ _ _ (v .6) (ap (λ r. r .k) e),
     )
 
--- src/load.rt:26:1
 returns : tie.Need-returns Inv-loop μ-loop
 returns c =
     let v = c .before .loop .inv in

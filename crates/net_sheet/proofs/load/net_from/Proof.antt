@@ -1,51 +1,32 @@
-use mathlib.Core.Path.{_≡_, refl, sym, _∙_, ap}
-use Prim.Native.Nat.{ℕ, suc, _+_, _*_, _-_, _<_, _≤_}
-use native.Mathlib.Omega.{arith}
-use lib.ListN.{length, getD, set, take, drop}
-use borrow.Author.Tests.{lt-ltb, le-ltb, lt-leb, le-leb, eq-eqb, ne-eqb, ltb-true, ltb-false, leb-true, leb-false, eqb-true, eqb-false, not-true, not-false}
-use native.Mathlib.Numerals.{add-one}
-use denote.Ref.{now}
+-- `net_sheet::load::net_from` meets its contract. What a loop does not store past a list's end, the definition does not either.
+use mathlib.Core.Path.{refl}
+use borrow.Author.Needs.{needs}
 use Rattle.base.proofs.Fill.{fill-clipped}
 use Rattle.net_sheet.proofs.Loads.{net-from-is}
-use borrow.Author.Needs.{needs}
 use Rattle.net_sheet.proofs.load.net_from.Statement.{statement}
 use Rattle.net_sheet.proofs.load.net_from.Tie as tie
-use Rattle.net_sheet.proofs.load.net_from.Reads as reads
-use Rattle.net_sheet.proofs.load.net_from.Lts as lts
-use Rattle.net_sheet.proofs.load.least.Reads as least-reads
-use Rattle.net_sheet.proofs.load.load_labels.Reads as load-labels-reads
-use Rattle.net_sheet.proofs.load.load_nodes.Reads as load-nodes-reads
-use Rattle.net_sheet.proofs.load.load_outputs.Reads as load-outputs-reads
 
--- src/load.rt:99:23
 least-requires : tie.Need-least-requires
 least-requires c κs = search needs
 
--- src/load.rt:99:5
 load-nodes-requires : tie.Need-load-nodes-requires
 load-nodes-requires c κs = search needs
 
--- src/load.rt:100:32
 least-requires-2 : tie.Need-least-requires-2
 least-requires-2 c κs = search needs
 
--- src/load.rt:100:5
 load-outputs-requires : tie.Need-load-outputs-requires
 load-outputs-requires c κs = search needs
 
--- src/load.rt:101:24
 add-load-labels : tie.Need-add-load-labels
 add-load-labels c = search needs
 
--- src/load.rt:101:40
 least-requires-3 : tie.Need-least-requires-3
 least-requires-3 c κs = search needs
 
--- src/load.rt:101:5
 load-labels-requires : tie.Need-load-labels-requires
 load-labels-requires c κs = search needs
 
--- src/load.rt:85:1
 returns : tie.Need-returns
 returns c =
     let x = c .before .before .before .before .before .before in

@@ -1,131 +1,95 @@
-use mathlib.Core.Path.{_≡_, refl, sym, _∙_, ap}
-use Prim.Native.Nat.{ℕ, suc, _+_, _*_, _-_, _<_, _≤_}
+-- `net_sheet::load::record_at` meets its contract. Each field's bytes stand where the definition reads them.
+use mathlib.Core.Path.{_≡_}
+use Prim.Native.Nat.{_+_, _*_}
 use native.Mathlib.Omega.{arith}
-use lib.ListN.{length, getD, set, take, drop}
-use borrow.Author.Tests.{lt-ltb, le-ltb, lt-leb, le-leb, eq-eqb, ne-eqb, ltb-true, ltb-false, leb-true, leb-false, eqb-true, eqb-false, not-true, not-false}
-use native.Mathlib.Numerals.{add-one}
-use denote.Ref.{now}
 use borrow.Author.Needs.{needs}
 use Rattle.net_sheet.proofs.load.record_at.Statement.{statement}
 use Rattle.net_sheet.proofs.load.record_at.Tie as tie
-use Rattle.net_sheet.proofs.load.record_at.Reads as reads
-use Rattle.net_sheet.proofs.load.record_at.Lts as lts
-use Rattle.base.proofs.le16.Reads as le16-reads
-use Rattle.base.proofs.le32.Reads as le32-reads
 
--- src/load.rt:14:14
 mul-at : tie.Need-mul-at
 mul-at c = search needs
 
--- src/load.rt:16:15
 shared-slice-read-t5 : tie.Need-shared-slice-read-t5
 shared-slice-read-t5 c = search needs
 
--- src/load.rt:17:22
 add-t6 : tie.Need-add-t6
 add-t6 c = search needs
 
--- src/load.rt:17:16
 shared-slice-read-t8 : tie.Need-shared-slice-read-t8
 shared-slice-read-t8 c = search needs
 
--- src/load.rt:18:29
 add-le16 : tie.Need-add-le16
 add-le16 c = search needs
 
--- src/load.rt:18:23
 shared-slice-read-le16 : tie.Need-shared-slice-read-le16
 shared-slice-read-le16 c = search needs
 
--- src/load.rt:18:44
 add-le16-2 : tie.Need-add-le16-2
 add-le16-2 c = search needs
 
--- src/load.rt:18:38
 shared-slice-read-le16-2 : tie.Need-shared-slice-read-le16-2
 shared-slice-read-le16-2 c = search needs
 
--- src/load.rt:18:12
 le16-requires : tie.Need-le16-requires
 le16-requires c κs = search needs
 
--- src/load.rt:19:29
 add-le16-3 : tie.Need-add-le16-3
 add-le16-3 c = search needs
 
--- src/load.rt:19:23
 shared-slice-read-le16-3 : tie.Need-shared-slice-read-le16-3
 shared-slice-read-le16-3 c = search needs
 
--- src/load.rt:19:44
 add-le16-4 : tie.Need-add-le16-4
 add-le16-4 c = search needs
 
--- src/load.rt:19:38
 shared-slice-read-le16-4 : tie.Need-shared-slice-read-le16-4
 shared-slice-read-le16-4 c = search needs
 
--- src/load.rt:19:12
 le16-requires-2 : tie.Need-le16-requires-2
 le16-requires-2 c κs = search needs
 
--- src/load.rt:20:29
 add-le16-5 : tie.Need-add-le16-5
 add-le16-5 c = search needs
 
--- src/load.rt:20:23
 shared-slice-read-le16-5 : tie.Need-shared-slice-read-le16-5
 shared-slice-read-le16-5 c = search needs
 
--- src/load.rt:20:44
 add-le16-6 : tie.Need-add-le16-6
 add-le16-6 c = search needs
 
--- src/load.rt:20:38
 shared-slice-read-le16-6 : tie.Need-shared-slice-read-le16-6
 shared-slice-read-le16-6 c = search needs
 
--- src/load.rt:20:12
 le16-requires-3 : tie.Need-le16-requires-3
 le16-requires-3 c κs = search needs
 
--- src/load.rt:21:29
 add-le32 : tie.Need-add-le32
 add-le32 c = search needs
 
--- src/load.rt:21:23
 shared-slice-read-le32 : tie.Need-shared-slice-read-le32
 shared-slice-read-le32 c = search needs
 
--- src/load.rt:21:44
 add-le32-2 : tie.Need-add-le32-2
 add-le32-2 c = search needs
 
--- src/load.rt:21:38
 shared-slice-read-le32-2 : tie.Need-shared-slice-read-le32-2
 shared-slice-read-le32-2 c = search needs
 
--- src/load.rt:21:59
 add-le32-3 : tie.Need-add-le32-3
 add-le32-3 c = search needs
 
--- src/load.rt:21:53
 shared-slice-read-le32-3 : tie.Need-shared-slice-read-le32-3
 shared-slice-read-le32-3 c = search needs
 
--- src/load.rt:21:75
 add-le32-4 : tie.Need-add-le32-4
 add-le32-4 c = search needs
 
--- src/load.rt:21:69
 shared-slice-read-le32-4 : tie.Need-shared-slice-read-le32-4
 shared-slice-read-le32-4 c = search needs
 
--- src/load.rt:21:12
 le32-requires : tie.Need-le32-requires
 le32-requires c κs = search needs
 
--- src/load.rt:10:1
 returns : tie.Need-returns
 returns c =
     let i = c .before .before .before .before .before .before .before .before .before .before .before .before .before .before .before .before .before .args .i in

@@ -1,20 +1,15 @@
-use mathlib.Core.Path.{_≡_, refl, sym, _∙_, ap}
-use Prim.Native.Nat.{ℕ, suc, _+_, _*_, _-_, _<_, _≤_}
+-- `net_sheet::put::put_outputs` meets its contract. The image is the old one with the outputs so far as one stretch.
+use mathlib.Core.Path.{_≡_, refl, _∙_}
+use Prim.Native.Nat.{_-_, _≤_}
 use native.Mathlib.Omega.{arith}
 use borrow.Author.Needs.{needs}
-use lib.ListN.{length, getD, set, take, drop}
-use borrow.Author.Tests.{lt-ltb, le-ltb, lt-leb, le-leb, eq-eqb, ne-eqb, ltb-true, ltb-false, leb-true, leb-false, eqb-true, eqb-false, not-true, not-false}
-use native.Mathlib.Numerals.{add-one}
 use denote.Ref.{now}
+use lib.ListN.{getD}
 use Rattle.base.specs.Lists.{flat, patch}
-use Rattle.layout.proofs.Puts.{put-none, put-room, put-length, put-step}
 use Rattle.base.specs.Bytes.{le2}
+use Rattle.layout.proofs.Puts.{put-none, put-length, put-step}
 use Rattle.net_sheet.proofs.put.put_outputs.Statement.{statement}
 use Rattle.net_sheet.proofs.put.put_outputs.Tie as tie
-use Rattle.net_sheet.proofs.put.put_outputs.Reads as reads
-use Rattle.net_sheet.proofs.put.put_outputs.Lts as lts
-use Rattle.layout.proofs.put_bytes.Reads as put-bytes-reads
-use Rattle.net_sheet.proofs.put.node_bytes.Reads as node-bytes-reads
 
 abbrev Inv-loop : tie.InvT-loop
 Inv-loop image₀ at output n j₀ image j = (j ≤ n) × (image ≡ patch image₀ at (flat (λ m. le2 (getD output m 0)) j))
@@ -22,49 +17,38 @@ Inv-loop image₀ at output n j₀ image j = (j ≤ n) × (image ≡ patch image
 abbrev μ-loop : tie.MeasureT-loop
 μ-loop image₀ at output n j₀ image j = n - j
 
--- src/put.rt:77:5
 loop-holds : tie.Need-loop-holds Inv-loop μ-loop
 loop-holds c =
     let s = c .before in
     (search needs, put-none _ 2 (λ m. refl) (now (s .args .image)) (s .args .at) (s .args .n) (s .pre .1))
 
--- src/put.rt:78:32
 mul-node-bytes : tie.Need-mul-node-bytes Inv-loop μ-loop
 mul-node-bytes c = search needs
 
--- src/put.rt:78:32
 element-copy-out-node-bytes : tie.Need-element-copy-out-node-bytes Inv-loop μ-loop
 element-copy-out-node-bytes c = search needs
 
--- src/put.rt:78:21
 node-bytes-requires : tie.Need-node-bytes-requires Inv-loop μ-loop
 node-bytes-requires c κs = search needs
 
--- src/put.rt:79:39
 mul-put-bytes : tie.Need-mul-put-bytes Inv-loop μ-loop
 mul-put-bytes c = search needs
 
--- src/put.rt:79:34
 add-put-bytes : tie.Need-add-put-bytes Inv-loop μ-loop
 add-put-bytes c = search needs
 
--- src/put.rt:79:46
 slice-aggregate-put-bytes : tie.Need-slice-aggregate-put-bytes Inv-loop μ-loop
 slice-aggregate-put-bytes c = search needs
 
--- src/put.rt:79:9
 put-bytes-requires : tie.Need-put-bytes-requires Inv-loop μ-loop
 put-bytes-requires c κs = search needs
 
--- src/put.rt:80:9
 add-j : tie.Need-add-j Inv-loop μ-loop
 add-j c = search needs
 
--- src/put.rt:77:5
 loop-less : tie.Need-loop-less Inv-loop μ-loop
 loop-less c = search needs
 
--- src/put.rt:77:5
 loop-again : tie.Need-loop-again Inv-loop μ-loop
 loop-again c =
     let s = c .before .before .before .before .before .before .before .before .before .before in
@@ -74,13 +58,11 @@ loop-again c =
           ∙ put-step _ 2 (λ m. refl) (now (s .args .image)) (s .args .at) (s .args .n) (s .pre .1) (v .j) _ _ _ (c .before .before .before .before .before .before .before .loop-test .taken) (v .inv .1) refl (c .before .before .before .before .before .node-bytes .ensures),
     )
 
--- src/put.rt:72:1
 same-length : tie.Need-same-length Inv-loop μ-loop
 same-length c =
     let s = c .before .before .before in
     put-length _ 2 (λ m. refl) (now (s .args .image)) (s .args .at) (s .args .n) (s .pre .1) (c .before .loop .j) _ (c .before .loop .inv .1) (c .before .loop .inv .0)
 
--- src/put.rt:72:1
 returns : tie.Need-returns Inv-loop μ-loop
 returns c =
     let e : c .before .loop .j ≡ c .before .before .before .args .n = omega arith in
