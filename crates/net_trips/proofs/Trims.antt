@@ -1,23 +1,22 @@
 -- What stands past a netlist's counts does not matter: the checks are good with zeros there, and a netlist with zeros there is its own.
 use mathlib.Core.Path.{_≡_, refl, sym, _∙_, ap}
-use mathlib.Core.Bool.{Bool, true, false, _&&_, _||_}
+use mathlib.Core.Bool.{Bool, true, false}
 use mathlib.Core.List.{List}
 use Prim.Native.Nat.{ℕ, zero, suc, _+_, _<_, _≤_}
 use native.Mathlib.Omega.{arith}
-use borrow.Author.Tests.{ltb-true, eqb-true, leb-true, leb-false}
-use lib.Dec.{eqb, leb, ltb}
+use borrow.Author.Tests.{leb-true, leb-false}
+use lib.Dec.{leb, ltb}
 use lib.ListN.{length, getD, take, replicate, length-replicate}
 use lib.Seq.{ext-getD}
 use Rattle.base.specs.Lists.{fill}
 use Rattle.base.specs.Checks.{AllGood}
 use Rattle.base.proofs.Fill.{fill-same, fill-at, fill-past, fill-length}
 use Rattle.base.proofs.First.{lowest-good, good-lowest}
-use Rattle.base.proofs.Tests.{and-left, and-right}
 use Rattle.base.proofs.Windows.{fill-window}
 use Rattle.codes.specs.declared.Record.{Record}
-use Rattle.codes.specs.declared.Row.{Row}
 use Rattle.codes.specs.Rows.{rowAt, placeOf}
-use Rattle.codes.specs.Records.{fieldGood, fieldsGood, usesK, widthGood, widthsGood, recordGood}
+use Rattle.codes.proofs.Apart.{apart, field-below}
+use Rattle.codes.specs.Records.{recordGood}
 use Rattle.layout.specs.Labels.{labelCheck}
 use Rattle.netlist.specs.declared.Netlist.{Netlist}
 use Rattle.netlist.specs.Netlists.{recordOf, outputOf, labelsOf}
@@ -26,30 +25,15 @@ use Rattle.netlist.proofs.Numbers.{Within}
 use Rattle.net_trips.specs.Typed.{Typed}
 use Rattle.net_trips.specs.Trips.{cleared, trimmed, ZerosFrom, Clean}
 
--- a good field names a node, the unused one node 0
-below : (used : Bool) (nodes i code x : ℕ) → 0 < nodes → fieldGood used nodes i code x ≡ true → x < nodes
-below true nodes i code x h e = ltb-true x nodes (and-left (ltb x nodes) (eqb code 2 || ltb x i) e)
-below false nodes i code x h e =
-    let z : x ≡ 0 = eqb-true x 0 e in
-    omega arith
-
--- so a good record looks at widths of nodes alone
+-- a good record looks at widths of nodes alone
 pub same-widths : (ws vs : List ℕ) (nodes i : ℕ) (r : Record) → 0 < nodes → ((x : ℕ) → x < nodes → getD vs x 0 ≡ getD ws x 0) → recordGood ws nodes i r ≡ true → recordGood vs nodes i r ≡ true
-unfolding recordGood fieldsGood
+unfolding recordGood
 same-widths ws vs nodes i r h same e =
-    let row : Row = rowAt (placeOf (r .code)) in
-    let fa : Bool = fieldGood (ltb 0 (row .operands)) nodes i (r .code) (r .a) in
-    let fb : Bool = fieldGood (ltb 1 (row .operands)) nodes i (r .code) (r .b) in
-    let fc : Bool = fieldGood (ltb 2 (row .operands)) nodes i (r .code) (r .c) in
-    let fk : Bool = usesK (row .rule) || eqb (r .k) 0 in
-    let head : Bool = ltb (placeOf (r .code)) 19 && widthGood (r .width) in
-    let wide : Bool = widthsGood (row .rule) (r .width) (getD ws (r .a) 0) (getD ws (r .b) 0) (getD ws (r .c) 0) (r .k) in
-    let f : (fa && fb && fc && fk) ≡ true = and-right head (fa && fb && fc && fk) (and-left (head && (fa && fb && fc && fk)) wide e) in
-    let abc : (fa && fb && fc) ≡ true = and-left (fa && fb && fc) fk f in
-    let ab : (fa && fb) ≡ true = and-left (fa && fb) fc abc in
-    let la : r .a < nodes = below (ltb 0 (row .operands)) nodes i (r .code) (r .a) h (and-left fa fb ab) in
-    let lb : r .b < nodes = below (ltb 1 (row .operands)) nodes i (r .code) (r .b) h (and-right fa fb ab) in
-    let lc : r .c < nodes = below (ltb 2 (row .operands)) nodes i (r .code) (r .c) h (and-right (fa && fb) fc abc) in
+    let g = apart ws nodes i r e in
+    let count : ℕ = rowAt (placeOf (r .code)) .operands in
+    let la : r .a < nodes = field-below (ltb 0 count) nodes i (r .code) (r .a) h (g .a-good) in
+    let lb : r .b < nodes = field-below (ltb 1 count) nodes i (r .code) (r .b) h (g .b-good) in
+    let lc : r .c < nodes = field-below (ltb 2 count) nodes i (r .code) (r .c) h (g .c-good) in
     rw (same (r .a) la, same (r .b) lb, same (r .c) lc) e
 
 -- an element below the count

@@ -1,0 +1,15 @@
+pub mod Unique
+pub mod Exists
+pub mod Accepted
+pub mod Below
+pub mod Meaning
+pub mod Ins
+pub mod Passes
+pub mod Arity
+pub mod Solved
+pub mod Turns
+pub mod Answers
+pub mod Streams
+pub mod Stepping
+pub mod One
+pub mod Bench

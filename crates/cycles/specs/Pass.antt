@@ -1,0 +1,50 @@
+-- One pass over the nodes, in their order: the values that it leaves, and the registers and outputs that follow.
+use mathlib.Core.Bool.{cond}
+use mathlib.Core.List.{List}
+use Prim.Native.Nat.{ℕ, zero, suc, _+_, _%_}
+use lib.ListN.{getD, set}
+use Rattle.cycles.specs.Netlists.{isIn, isReg}
+use Rattle.values.specs.Values.{valueOf}
+use Rattle.cycles.specs.Inputs.{insIn}
+
+-- the lists of the nodes' fields
+pub record Fields : Type 0 where
+  pub code : List ℕ
+  pub width : List ℕ
+  pub a : List ℕ
+  pub b : List ℕ
+  pub c : List ℕ
+  pub k : List ℕ
+
+abbrev pub mk : List ℕ → List ℕ → List ℕ → List ℕ → List ℕ → List ℕ → Fields
+mk code width a b c k = record { code = code; width = width; a = a; b = b; c = c; k = k }
+
+-- a stored number as an index
+abbrev pub inside : ℕ → ℕ
+inside x = x % 1024
+
+-- a node's value by its code, from the values so far
+unfoldable pub nodeIn : Fields → List ℕ → ℕ → ℕ
+nodeIn F vals i =
+    valueOf (getD (F .code) i 0) (getD (F .width) i 0) (getD (F .width) (inside (getD (F .b) i 0)) 0) (getD (F .k) i 0)
+    (getD vals (inside (getD (F .a) i 0)) 0)
+    (getD vals (inside (getD (F .b) i 0)) 0)
+    (getD vals (inside (getD (F .c) i 0)) 0)
+
+-- an IN has the value at place j, a REG what it holds
+unfoldable pub nodeNow : Fields → List ℕ → List ℕ → ℕ → List ℕ → ℕ → ℕ
+nodeNow F regs ins j vals i = cond (isIn (getD (F .code) i 0)) (getD ins j 0) (cond (isReg (getD (F .code) i 0)) (getD regs i 0) (nodeIn F vals i))
+
+-- the values after the first n nodes; the inputs stand from place m on
+unfoldable pub evals : Fields → List ℕ → List ℕ → ℕ → ℕ → List ℕ → List ℕ
+evals F regs ins m zero vals = vals
+evals F regs ins m (suc n) vals = set (evals F regs ins m n vals) n (nodeNow F regs ins (m + insIn (F .code) n) (evals F regs ins m n vals) n)
+
+-- a register's next value
+abbrev pub nextIn : List ℕ → List ℕ → List ℕ → ℕ → ℕ
+nextIn code a vals i = cond (isReg (getD code i 0)) (getD vals (inside (getD a i 0)) 0) 0
+
+-- n elements from place m on are those of f, the rest as they were
+unfoldable pub fillFrom : ℕ → (ℕ → ℕ) → ℕ → List ℕ → List ℕ
+fillFrom m f zero xs = xs
+fillFrom m f (suc n) xs = set (fillFrom m f n xs) (m + n) (f n)

@@ -1,0 +1,176 @@
+// The plain stepper on lent arrays: a netlist's first registers, and its cycles.
+ghost use mathlib.Core.Path.{_≡_};
+ghost use mathlib.Core.Bool.{cond};
+ghost use Prim.Native.Nat.{ℕ, _+_, _*_, _<_, _≤_, min};
+ghost use lib.ListN.{length, getD, replicate};
+ghost use Rattle.base.specs.Checks.{every, AllGood};
+ghost use Rattle.base.specs.Lists.{fill};
+ghost use Rattle.netlist.specs.Checks.{netChecks};
+ghost use Rattle.cycles.specs.Inputs.{insIn, allFitIn};
+ghost use Rattle.cycles.specs.Netlists.{isReg};
+ghost use Rattle.cycles.specs.Steps.{netIn, Registers, Cycles, registersAfter, outputsAfter, StepsPromise};
+
+// The smaller of the two.
+fn least(x: usize, y: usize) -> usize
+    ensures { λ r. ⌜ r ≡ min x y ⌝ }
+{
+    if x <= y { x } else { y }
+}
+
+// Whether the inputs of every one of so many cycles fit.
+fn all_fit<'x>(
+    code: &'x [u8; 1024],
+    width: &'x [u8; 1024],
+    n: usize,
+    cycles: usize,
+    per: usize,
+    ins: &[u32],
+) -> bool
+    requires { ⌜ (n ≤ 1024) × (per ≡ insIn (now code) n) × (cycles * per ≤ length (now ins)) ⌝ }
+    ensures { λ r. ⌜ r ≡ every (λ t. allFitIn (now (code .entry)) (now (width .entry)) (now (ins .entry)) (t * per) n) cycles ⌝ }
+{
+    let mut t = 0;
+    while t < cycles {
+        if !crate::inputs::cycle_fits(code, width, n, ins, t * per) {
+            return false;
+        }
+        t += 1;
+    }
+    true
+}
+
+// The cycles themselves, where nothing is refused.
+fn run_cycles<'x>(
+    code: &'x [u8; 1024],
+    width: &'x [u8; 1024],
+    a: &'x [u16; 1024],
+    b: &'x [u16; 1024],
+    c: &'x [u16; 1024],
+    k: &'x [u32; 1024],
+    n: usize,
+    output: &[u16; 64],
+    m: usize,
+    regs: &mut [u32; 1024],
+    cycles: usize,
+    per: usize,
+    ins: &[u32],
+    outs: &mut [u32],
+)
+    requires { ⌜ (n ≤ 1024) × (m ≤ 64) × (per ≡ insIn (now code) n) × (cycles * per ≤ length (now ins)) × (cycles * m ≤ length (now outs)) ⌝ }
+    ensures { λ _. ⌜ (AllGood (netChecks (netIn n (now (code .entry)) (now (width .entry)) (now (a .entry)) (now (b .entry)) (now (c .entry)) (now (k .entry)) m (now (output .entry)))) → Registers (netIn n (now (code .entry)) (now (width .entry)) (now (a .entry)) (now (b .entry)) (now (c .entry)) (now (k .entry)) m (now (output .entry))) (now (regs .entry)) → (v : ℕ → ℕ → ℕ) → Cycles (netIn n (now (code .entry)) (now (width .entry)) (now (a .entry)) (now (b .entry)) (now (c .entry)) (now (k .entry)) m (now (output .entry))) (now (regs .entry)) (now (ins .entry)) cycles v → (now (regs .exit) ≡ registersAfter (netIn n (now (code .entry)) (now (width .entry)) (now (a .entry)) (now (b .entry)) (now (c .entry)) (now (k .entry)) m (now (output .entry))) (now (regs .entry)) v cycles) × (now (outs .exit) ≡ outputsAfter (netIn n (now (code .entry)) (now (width .entry)) (now (a .entry)) (now (b .entry)) (now (c .entry)) (now (k .entry)) m (now (output .entry))) v (now (outs .entry)) cycles)) ⌝ }
+{
+    let mut vals = [0u32; 1024];
+    let mut t = 0;
+    while t < cycles {
+        crate::cycle::evaluate(code, width, a, b, c, k, n, regs, ins, t * per, &mut vals);
+        crate::cycle::put_values(output, m, &vals, outs, t * m);
+        crate::cycle::change_registers(code, a, n, &vals, regs);
+        t += 1;
+    }
+}
+
+// Many cycles: the inputs are so many times the INs, the outputs so many times the outputs. Refused by 12, 13 and 16, before the first cycle.
+pub fn steps_in<'x>(
+    nodes: usize,
+    code: &'x [u8; 1024],
+    width: &'x [u8; 1024],
+    a: &'x [u16; 1024],
+    b: &'x [u16; 1024],
+    c: &'x [u16; 1024],
+    k: &'x [u32; 1024],
+    outputs: usize,
+    output: &'x [u16; 64],
+    regs: &mut [u32; 1024],
+    cycles: u32,
+    ins: &[u32],
+    outs: &mut [u32],
+) -> u32
+    ensures { λ r. ⌜ StepsPromise (netIn nodes (now (code .entry)) (now (width .entry)) (now (a .entry)) (now (b .entry)) (now (c .entry)) (now (k .entry)) outputs (now (output .entry))) (now (regs .entry)) cycles (now (ins .entry)) (now (outs .entry)) r (now (regs .exit)) (now (outs .exit)) ⌝ }
+{
+    if 1024 < nodes {
+        return 12;
+    }
+    if 64 < outputs {
+        return 12;
+    }
+    let t = cycles as usize;
+    let per = crate::inputs::count_ins(code, nodes);
+    if ins.len() != t * per {
+        return 12;
+    }
+    if !all_fit(code, width, nodes, t, per, ins) {
+        return 13;
+    }
+    if outs.len() < t * outputs {
+        return 16;
+    }
+    run_cycles(
+        code,
+        width,
+        a,
+        b,
+        c,
+        k,
+        nodes,
+        output,
+        outputs,
+        regs,
+        t,
+        per,
+        ins,
+        outs,
+    );
+    0
+}
+
+// One cycle.
+pub fn step_in<'x>(
+    nodes: usize,
+    code: &'x [u8; 1024],
+    width: &'x [u8; 1024],
+    a: &'x [u16; 1024],
+    b: &'x [u16; 1024],
+    c: &'x [u16; 1024],
+    k: &'x [u32; 1024],
+    outputs: usize,
+    output: &'x [u16; 64],
+    regs: &mut [u32; 1024],
+    ins: &[u32],
+    outs: &mut [u32],
+) -> u32
+    ensures { λ r. ⌜ StepsPromise (netIn nodes (now (code .entry)) (now (width .entry)) (now (a .entry)) (now (b .entry)) (now (c .entry)) (now (k .entry)) outputs (now (output .entry))) (now (regs .entry)) 1 (now (ins .entry)) (now (outs .entry)) r (now (regs .exit)) (now (outs .exit)) ⌝ }
+{
+    steps_in(
+        nodes,
+        code,
+        width,
+        a,
+        b,
+        c,
+        k,
+        outputs,
+        output,
+        regs,
+        1,
+        ins,
+        outs,
+    )
+}
+
+// The registers of a netlist before its first cycle: k at a REG, 0 elsewhere.
+pub fn first_registers_in<'x>(
+    nodes: usize,
+    code: &'x [u8; 1024],
+    k: &'x [u32; 1024],
+    regs: &mut [u32; 1024],
+)
+    ensures { λ _. ⌜ now (regs .exit) ≡ fill (λ i. cond (isReg (getD (now (code .entry)) i 0)) (getD (now (k .entry)) i 0) 0) nodes (replicate 1024 0) ⌝ }
+{
+    let n = least(nodes, 1024);
+    *regs = [0; 1024];
+    let mut i = 0;
+    while i < n {
+        regs[i] = crate::cycle::next_of(code[i], k[i]);
+        i += 1;
+    }
+}
