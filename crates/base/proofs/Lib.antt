@@ -9,3 +9,4 @@ pub mod Verdicts
 pub mod Windows
 pub mod One
 pub mod Exact
+pub mod Lent

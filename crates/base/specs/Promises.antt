@@ -4,7 +4,8 @@ use mathlib.Core.List.{List}
 use Prim.Native.Nat.{ℕ}
 use borrow.Fn.Kind.{PK, RK}
 use borrow.Fn.Kinds.{Out, Dens, endedOf, resT}
-use denote.Triple.Clauses.{AtExit}
+use denote.Triple.Clauses.{Ended, AtExit}
+use denote.Triple.Entry.{Args, Res}
 use contract.Lifetimes.{Lfts}
 
 -- P is a function's `ensures`, over its lifetimes, its arguments, its result and its lent parameters as it returns.
@@ -19,6 +20,14 @@ OneResult n ps k P =
 abbrev pub OneOutcome : (n : ℕ) (ps : List (PK n)) (k : RK n) → Out n ps k → ((κs : Lfts n) → AtExit (endedOf n ps k) κs → List ℕ) → Type 0
 OneOutcome n ps k P left =
     (κs : Lfts n) (a : Dens κs ps) (r r′ : resT k κs .Denot) (x x′ : AtExit (endedOf n ps k) κs)
+    → P κs a r x
+    → P κs a r′ x′
+    → (r ≡ r′) × (left κs x ≡ left κs x′)
+
+-- the same of a function that takes a struct by reference: T is its signature, and P is what its `ensures` is shown to say
+abbrev pub OneLeft : (T : Ended) → ((κs : Lfts (T .signature .lifetimes)) → Args (T .signature) κs → Res (T .signature) κs → AtExit T κs → Type 0) → ((κs : Lfts (T .signature .lifetimes)) → AtExit T κs → List ℕ) → Type 0
+OneLeft T P left =
+    (κs : Lfts (T .signature .lifetimes)) (a : Args (T .signature) κs) (r r′ : Res (T .signature) κs) (x x′ : AtExit T κs)
     → P κs a r x
     → P κs a r′ x′
     → (r ≡ r′) × (left κs x ≡ left κs x′)
