@@ -1,4 +1,4 @@
--- One pass over the nodes, in their order: the values that it leaves, and the registers and outputs that follow.
+-- One pass over the nodes, in their order: what the private functions of a cycle leave. No public promise speaks of it: those are in Steps, over whatever solves the cycle.
 use mathlib.Core.Bool.{cond}
 use mathlib.Core.List.{List}
 use Prim.Native.Nat.{ℕ, zero, suc, _+_, _%_}

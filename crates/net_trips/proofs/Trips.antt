@@ -15,7 +15,7 @@ use Rattle.net_sheet.specs.Image.{netImage}
 use Rattle.net_sheet.specs.Reading.{netOf, netTrailerGood, sheetChecks, sheetVerdict, netRead}
 use Rattle.net_sheet.proofs.Verdicts.{rising, net-good, net-within, read-done, write-done, wrote-done}
 use Rattle.net_trips.specs.Typed.{Bytes, Typed}
-use Rattle.net_trips.specs.Trips.{WriteAfterRead, ReadAfterWrite, ReadAfterWriteClean, ReadIsClean, Clean}
+use Rattle.net_trips.specs.Trips.{WriteAfterRead, ReadAfterWrite, ReadAfterWriteClean, ReadIsClean, ReadIsAccepted, Clean}
 use Rattle.net_trips.proofs.Copies.{image-of}
 use Rattle.net_trips.proofs.Rereads.{long-is, trailer-good, net-of-image}
 use Rattle.net_trips.proofs.Trims.{still-good, trimmed-same}
@@ -29,6 +29,9 @@ accepted s e = good-all 1 (sheetChecks s) (lit< tt) (lit≤ tt, (lit≤ tt, risi
 pub net-is : (s : List ℕ) → netRead s .answer ≡ 0 → netRead s .net ≡ netOf s
 unfolding netRead
 net-is s e = rw (eq-eqb (sheetVerdict s .answer) 0 e)
+
+pub read-is-accepted : ReadIsAccepted
+read-is-accepted s e = rw (net-is s e) (accepted s e .1 .1)
 
 pub write-after-read : WriteAfterRead
 write-after-read s old b e room =

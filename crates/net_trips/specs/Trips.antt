@@ -4,7 +4,7 @@ use mathlib.Core.List.{List, _++_}
 use Prim.Native.Nat.{ℕ, _≤_}
 use lib.ListN.{length, getD, drop, replicate}
 use Rattle.base.specs.Lists.{fill}
-use Rattle.base.specs.Checks.{verdict}
+use Rattle.base.specs.Checks.{verdict, AllGood}
 use Rattle.netlist.specs.declared.Netlist.{Netlist}
 use Rattle.netlist.specs.Checks.{netChecks}
 use Rattle.net_sheet.specs.Image.{netImage}
@@ -78,3 +78,7 @@ ReadAfterWriteClean =
 -- And what the reader gives is such a netlist, on a refusal too.
 abbrev pub ReadIsClean : Type 0
 ReadIsClean = (s : List ℕ) → Bytes s → Typed (netRead s .net) × Clean (netRead s .net)
+
+-- A netlist that the reader gives with 0 passes the checks 3 to 6: it is one of those that later calls make their promises for.
+abbrev pub ReadIsAccepted : Type 0
+ReadIsAccepted = (s : List ℕ) → netRead s .answer ≡ 0 → AllGood (netChecks (netRead s .net))
