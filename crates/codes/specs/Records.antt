@@ -1,14 +1,14 @@
 -- The rule of a record (outline, "The net sheet" and "The nineteen codes").
 use mathlib.Core.Bool.{Bool, true, false, cond, _&&_, _||_}
-use mathlib.Core.List.{List}
+use mathlib.Core.List.{List, [], _∷_}
 use Prim.Native.Nat.{ℕ, _+_, _^_}
 use lib.Dec.{eqb, ltb, leb}
-use lib.ListN.{getD}
+use lib.ListN.{getD, take}
 use Rattle.codes.specs.declared.Rule.{Rule}
 use Rattle.codes.specs.declared.Rule.the-variants.{Free, Constant, Register, Same, Flag, Pair, Compare, Shift, Choose, Join, Part}
 use Rattle.codes.specs.declared.Row.{Row}
 use Rattle.codes.specs.declared.Record.{Record}
-use Rattle.codes.specs.Rows.{rowAt, placeOf}
+use Rattle.codes.specs.Rows.{rowAt, placeOf, countOf}
 
 -- every operand is an existing node; for every code but REG it has a smaller number than its own node
 abbrev pub operandGood : ℕ → ℕ → ℕ → ℕ → Bool
@@ -64,3 +64,7 @@ recordGood widths nodes i r =
     && widthGood (r .width)
     && fieldsGood (rowAt (placeOf (r .code))) nodes i r
     && widthsGood (rowAt (placeOf (r .code)) .rule) (r .width) (getD widths (r .a) 0) (getD widths (r .b) 0) (getD widths (r .c) 0) (r .k)
+
+-- a record's operands: a field that the code doesn't use is none
+abbrev pub operandsIn : Record → List ℕ
+operandsIn r = take (countOf (r .code)) (r .a ∷ r .b ∷ r .c ∷ [])

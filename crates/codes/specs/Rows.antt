@@ -1,5 +1,5 @@
 -- The nineteen codes: one table of nineteen rows, each a code, its operand count and its width rule (outline, "The nineteen codes").
-use mathlib.Core.Bool.{cond}
+use mathlib.Core.Bool.{Bool, cond}
 use mathlib.Core.List.{List, [], _∷_}
 use Prim.Native.Nat.{ℕ, suc}
 use lib.Dec.{eqb}
@@ -46,3 +46,14 @@ place (r ∷ rs) i code = cond (eqb (r .code) code) i (place rs (suc i) code)
 -- the place of a code in the table; 19 for no code
 abbrev pub placeOf : ℕ → ℕ
 placeOf code = place rows 0 code
+
+-- how many operands a code takes
+abbrev pub countOf : ℕ → ℕ
+countOf code = rowAt (placeOf code) .operands
+
+-- IN, and REG
+abbrev pub isIn : ℕ → Bool
+isIn code = eqb code 0x00
+
+abbrev pub isReg : ℕ → Bool
+isReg code = eqb code 0x02

@@ -3,7 +3,7 @@ ghost use mathlib.Core.Path.{_≡_};
 ghost use Prim.Native.Nat.{ℕ, _<_, _≤_, _^_};
 ghost use lib.Dec.{ltb};
 ghost use lib.ListN.{getD};
-ghost use Rattle.codes.specs.Rows.{rowAt, placeOf};
+ghost use Rattle.codes.specs.Rows.{rowAt, placeOf, countOf};
 ghost use Rattle.codes.specs.Records.{operandGood, fieldGood, fieldsGood, usesK, widthsGood, recordGood};
 
 // What a row asks of the widths and of k, w being the record's width.
@@ -286,4 +286,16 @@ pub fn record_good(r: Record, i: usize, nodes: usize, width: &[u8]) -> bool
         width_at(width, r.c),
         r.k,
     )
+}
+
+// How many operands a code takes; none where there is no such code.
+pub fn operand_count(code: u8) -> u8
+    ensures { λ r. ⌜ r ≡ countOf code ⌝ }
+{
+    let place = row_place(code);
+    if 19 <= place {
+        return 0;
+    }
+    let found = row_at(place);
+    found.operands
 }

@@ -13,14 +13,14 @@ use Rattle.base.specs.Checks.{AllGood}
 use Rattle.base.proofs.First.{lowest-good}
 use Rattle.base.proofs.Tests.{and-left, and-right}
 use Rattle.codes.specs.declared.Record.{Record}
-use Rattle.codes.specs.Rows.{rows, place}
+use Rattle.codes.specs.Rows.{rows, place, isIn, isReg, countOf}
 use Rattle.codes.proofs.Apart.{GoodRecord, apart}
-use Rattle.codes.specs.Records.{operandGood, fieldGood, recordGood}
+use Rattle.codes.specs.Records.{operandGood, fieldGood, recordGood, operandsIn}
 use Rattle.netlist.specs.declared.Netlist.{Netlist}
 use Rattle.netlist.specs.Netlists.{recordOf}
 use Rattle.netlist.specs.Checks.{netChecks}
 use Rattle.cycles.specs.Drawings.{input, register, oper, operands, inner, Ordered}
-use Rattle.cycles.specs.Netlists.{isIn, isReg, countOf, operandsIn, operator, kindIn, widthOf, drawing}
+use Rattle.cycles.specs.Netlists.{operator, kindIn, widthOf, drawing}
 
 -- an operand that is used
 used : (count j nodes i code x : ℕ) → j < count → fieldGood (ltb j count) nodes i code x ≡ true → operandGood nodes i code x ≡ true

@@ -9,9 +9,8 @@ use borrow.Author.Tests.{ltb-true, ltb-false, lt-ltb, le-ltb}
 use lib.Dec.{T, eqb, ltb, eqb→eq}
 use lib.ListN.{getD, take}
 use Rattle.base.proofs.Tests.{below}
-use Rattle.codes.specs.Rows.{rows, place, placeOf}
+use Rattle.codes.specs.Rows.{rows, place, placeOf, countOf}
 use Rattle.values.specs.Values.{wiredOf, codeOf, valueOf}
-use Rattle.cycles.specs.Netlists.{countOf}
 
 -- the operands that a code of a range looks at
 abbrev arity : ℕ → ℕ

@@ -11,14 +11,14 @@ use lib.Pow.{pow-pos}
 use Rattle.base.specs.Checks.{AllGood}
 use Rattle.base.proofs.Tests.{and-left, and-right}
 use Rattle.codes.specs.declared.Record.{Record}
-use Rattle.codes.specs.Rows.{rows, place, rowAt, placeOf}
-use Rattle.codes.specs.Records.{widthsGood}
+use Rattle.codes.specs.Rows.{rows, place, rowAt, placeOf, isIn, isReg}
+use Rattle.codes.specs.Records.{widthsGood, operandsIn}
 use Rattle.netlist.specs.declared.Netlist.{Netlist}
 use Rattle.netlist.specs.Netlists.{recordOf}
 use Rattle.netlist.specs.Checks.{netChecks}
 use Rattle.values.proofs.Bounds.{value-below}
 use Rattle.cycles.specs.Drawings.{input, register, oper, value, given, Solves, Runs}
-use Rattle.cycles.specs.Netlists.{isIn, isReg, operandsIn, operator, kindOf, widthOf, drawing}
+use Rattle.cycles.specs.Netlists.{operator, kindOf, widthOf, drawing}
 use Rattle.cycles.proofs.Accepted.{good-record, register-operand}
 
 -- a register's operand has its width, and its first value fits

@@ -14,7 +14,7 @@ use Rattle.base.specs.Checks.{AllGood}
 use Rattle.base.proofs.Tests.{and-left, and-right}
 use Rattle.codes.specs.declared.Record.{Record}
 use Rattle.codes.specs.declared.Row.{Row}
-use Rattle.codes.specs.Rows.{rows, place, placeOf}
+use Rattle.codes.specs.Rows.{rows, place, placeOf, isIn, isReg, countOf}
 use Rattle.codes.proofs.Apart.{field-below}
 use Rattle.netlist.specs.declared.Netlist.{Netlist}
 use Rattle.netlist.specs.Netlists.{recordOf}
@@ -22,7 +22,8 @@ use Rattle.netlist.specs.Checks.{netChecks}
 use Rattle.netlist.proofs.Numbers.{Within}
 use Rattle.cycles.specs.Drawings.{input, register, oper, value, Solves}
 use Rattle.cycles.specs.Inputs.{insIn}
-use Rattle.cycles.specs.Netlists.{isIn, isReg, countOf, operandsIn, operator, kindOf, widthOf, drawing}
+use Rattle.codes.specs.Records.{operandsIn}
+use Rattle.cycles.specs.Netlists.{operator, kindOf, widthOf, drawing}
 use Rattle.cycles.specs.Pass.{Fields, mk, inside, nodeIn, nodeNow, evals}
 use Rattle.cycles.proofs.Accepted.{good-record, ordered}
 use Rattle.cycles.proofs.Arity.{count-is, same-operands, nth-first, nth-second, nth-third}

@@ -22,7 +22,8 @@ use Rattle.netlist.specs.Netlists.{recordOf}
 use Rattle.netlist.specs.Checks.{netChecks}
 use Rattle.cycles.specs.Drawings.{value}
 use Rattle.cycles.specs.Inputs.{insIn, allFitIn, fitsIn}
-use Rattle.cycles.specs.Netlists.{isIn, kindOf, widthOf}
+use Rattle.codes.specs.Rows.{isIn}
+use Rattle.cycles.specs.Netlists.{kindOf, widthOf}
 use Rattle.cycles.specs.Steps.{registerAt, insOf, Registers, firstRegisters, heldAt, givenAt, Cycles, registersAfter, stepChecks, Stepped}
 use Rattle.cycles.specs.Stepping.{StepsAreTheRun, FirstAreRegisters, StepsKeepRegisters, StepsAreSteps}
 use Rattle.cycles.proofs.Accepted.{good-record, register-operand}

@@ -14,7 +14,9 @@ use Rattle.netlist.specs.Netlists.{recordOf}
 use Rattle.netlist.specs.Checks.{netChecks}
 use Rattle.cycles.specs.Drawings.{input, register, oper, value, given, Runs}
 use Rattle.cycles.specs.Inputs.{insIn}
-use Rattle.cycles.specs.Netlists.{isIn, isReg, operandsIn, operator, widthOf, drawing}
+use Rattle.codes.specs.Rows.{isIn, isReg}
+use Rattle.codes.specs.Records.{operandsIn}
+use Rattle.cycles.specs.Netlists.{operator, widthOf, drawing}
 use Rattle.cycles.specs.Steps.{registerAt, insOf, firstRegisters, heldAt, Cycles, Begins, Stepped}
 use Rattle.cycles.proofs.Accepted.{ordered}
 use Rattle.cycles.proofs.Answers.{bounds}

@@ -20,7 +20,8 @@ use Rattle.netlist.specs.Netlists.{recordOf, outputOf}
 use Rattle.netlist.specs.Checks.{netChecks, numbersGood}
 use Rattle.netlist.proofs.Numbers.{Within, within}
 use Rattle.cycles.specs.Inputs.{insIn}
-use Rattle.cycles.specs.Netlists.{isIn, drawing}
+use Rattle.codes.specs.Rows.{isIn}
+use Rattle.cycles.specs.Netlists.{drawing}
 use Rattle.cycles.specs.Pass.{mk, inside, evals, nextIn, fillFrom}
 use Rattle.cycles.specs.Steps.{registerAt, insOf, Registers, heldAt, givenAt, Cycles, registersAfter, outputsAfter}
 use Rattle.cycles.proofs.Accepted.{good-record, register-operand, ordered}

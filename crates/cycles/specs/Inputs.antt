@@ -5,7 +5,7 @@ use Prim.Native.Nat.{ℕ, zero, suc, _+_, _^_}
 use lib.Dec.{ltb}
 use lib.ListN.{getD}
 use Rattle.base.specs.Checks.{every}
-use Rattle.cycles.specs.Netlists.{isIn}
+use Rattle.codes.specs.Rows.{isIn}
 
 -- 1 for an IN
 abbrev pub inFlag : ℕ → ℕ

@@ -7,7 +7,8 @@ use Rattle.netlist.specs.declared.Netlist.{Netlist}
 use Rattle.netlist.specs.Netlists.{recordOf}
 use Rattle.netlist.specs.Checks.{netChecks}
 use Rattle.cycles.specs.Drawings.{Solves, Runs}
-use Rattle.cycles.specs.Netlists.{isIn, widthOf, drawing}
+use Rattle.codes.specs.Rows.{isIn}
+use Rattle.cycles.specs.Netlists.{widthOf, drawing}
 
 -- one cycle, its inputs and registers given
 pub record OneCycle (n : Netlist) (given : ℕ → ℕ) : Type 0 where

@@ -1,29 +1,15 @@
 -- A netlist as a drawing: what each node is, by the lists of its fields.
-use mathlib.Core.Bool.{Bool, cond}
-use mathlib.Core.List.{List, [], _∷_}
+use mathlib.Core.Bool.{cond}
+use mathlib.Core.List.{List}
 use Prim.Native.Nat.{ℕ}
-use lib.Dec.{eqb}
-use lib.ListN.{getD, take}
+use lib.ListN.{getD}
 use Rattle.codes.specs.declared.Record.{Record}
-use Rattle.codes.specs.Rows.{rowAt, placeOf}
+use Rattle.codes.specs.Rows.{isIn, isReg}
+use Rattle.codes.specs.Records.{operandsIn}
 use Rattle.netlist.specs.declared.Netlist.{Netlist}
 use Rattle.netlist.specs.Netlists.{recordOf}
 use Rattle.values.specs.Values.{valueOf}
 use Rattle.cycles.specs.Drawings.{Kind, input, register, oper, Drawing}
-
--- IN, and REG
-abbrev pub isIn : ℕ → Bool
-isIn code = eqb code 0x00
-
-abbrev pub isReg : ℕ → Bool
-isReg code = eqb code 0x02
-
--- how many operands a code takes; a field that it doesn't use is no operand
-abbrev pub countOf : ℕ → ℕ
-countOf code = rowAt (placeOf code) .operands
-
-abbrev pub operandsIn : Record → List ℕ
-operandsIn r = take (countOf (r .code)) (r .a ∷ r .b ∷ r .c ∷ [])
 
 -- a record's operator, over the values of its operands; v is the width of b
 abbrev pub operator : Record → ℕ → List ℕ → ℕ

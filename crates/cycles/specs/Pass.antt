@@ -3,7 +3,7 @@ use mathlib.Core.Bool.{cond}
 use mathlib.Core.List.{List}
 use Prim.Native.Nat.{ℕ, zero, suc, _+_, _%_}
 use lib.ListN.{getD, set}
-use Rattle.cycles.specs.Netlists.{isIn, isReg}
+use Rattle.codes.specs.Rows.{isIn, isReg}
 use Rattle.values.specs.Values.{valueOf}
 use Rattle.cycles.specs.Inputs.{insIn}
 

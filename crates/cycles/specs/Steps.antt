@@ -13,7 +13,8 @@ use Rattle.netlist.specs.Netlists.{recordOf, outputOf}
 use Rattle.netlist.specs.Checks.{netChecks}
 use Rattle.cycles.specs.Drawings.{Solves}
 use Rattle.cycles.specs.Inputs.{insIn, allFitIn}
-use Rattle.cycles.specs.Netlists.{isIn, isReg, widthOf, drawing}
+use Rattle.codes.specs.Rows.{isIn, isReg}
+use Rattle.cycles.specs.Netlists.{widthOf, drawing}
 use Rattle.cycles.specs.Pass.{fillFrom}
 
 -- a netlist from the lists that are lent; its labels do not matter to a cycle

@@ -4,7 +4,7 @@ ghost use mathlib.Core.Bool.{cond};
 ghost use Prim.Native.Nat.{ℕ, _+_, _*_, _<_, _≤_};
 ghost use lib.ListN.{length, getD};
 ghost use Rattle.base.specs.Lists.{fill};
-ghost use Rattle.cycles.specs.Netlists.{isReg};
+ghost use Rattle.codes.specs.Rows.{isReg};
 ghost use Rattle.cycles.specs.Inputs.{insIn};
 ghost use Rattle.cycles.specs.Pass.{mk, inside, nodeNow, evals, nextIn, fillFrom};
 

@@ -7,7 +7,7 @@ ghost use Rattle.base.specs.Checks.{every, AllGood};
 ghost use Rattle.base.specs.Lists.{fill};
 ghost use Rattle.netlist.specs.Checks.{netChecks};
 ghost use Rattle.cycles.specs.Inputs.{insIn, allFitIn};
-ghost use Rattle.cycles.specs.Netlists.{isReg};
+ghost use Rattle.codes.specs.Rows.{isReg};
 ghost use Rattle.cycles.specs.Steps.{netIn, Registers, Cycles, registersAfter, outputsAfter, StepsPromise};
 
 // The smaller of the two.

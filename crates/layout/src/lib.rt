@@ -7,4 +7,5 @@ pub use labels::check_labels;
 pub use trailer::Sections;
 pub use trailer::find_sections;
 pub use trailer::trailer_bytes;
+pub use write::Wrote;
 pub use write::put_bytes;

@@ -2,6 +2,13 @@
 ghost use mathlib.Core.Path.{_≡_};
 ghost use Rattle.layout.specs.Write.{placed};
 
+// What writing a sheet gives: on a refusal the length is 0.
+pub struct Wrote {
+    pub answer: u32,
+    pub place: usize,
+    pub length: usize,
+}
+
 // Puts `from` into the image from byte `at` on; where it does not fit, nothing.
 pub fn put_bytes(image: &mut [u8], at: usize, from: &[u8])
     ensures { λ _. ⌜ now (image .exit) ≡ placed (now (image .entry)) at (now (from .entry)) ⌝ }

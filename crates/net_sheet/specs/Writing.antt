@@ -9,7 +9,7 @@ use Rattle.base.specs.declared.Verdict.{Verdict}
 use Rattle.base.specs.Checks.{whole, verdict}
 use Rattle.netlist.specs.declared.Netlist.{Netlist}
 use Rattle.netlist.specs.Checks.{netChecks}
-use Rattle.net_sheet.specs.declared.write.Wrote.{Wrote}
+use Rattle.layout.specs.declared.write.Wrote.{Wrote}
 use Rattle.net_sheet.specs.Image.{netImage}
 
 -- the checks for a lent image of so many bytes; 16: the sheet has room

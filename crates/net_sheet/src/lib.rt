@@ -6,5 +6,4 @@ mod write;
 
 pub use read::NetRead;
 pub use read::read_net;
-pub use write::Wrote;
 pub use write::write_net;

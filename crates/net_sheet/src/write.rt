@@ -6,13 +6,6 @@ ghost use Rattle.base.specs.Lists.{patch};
 ghost use Rattle.net_sheet.specs.Image.{netImage};
 ghost use Rattle.net_sheet.specs.Writing.{netWrote, netWritten};
 
-// What writing gives: on a refusal the length is 0.
-pub struct Wrote {
-    pub answer: u32,
-    pub place: usize,
-    pub length: usize,
-}
-
 // Puts the first n label bytes, from byte `at` on.
 fn put_labels(image: &mut [u8], at: usize, label: &[u8], n: usize)
     requires { ⌜ (n ≤ length (now label)) × (at + n ≤ length (now image)) ⌝ }
@@ -48,12 +41,12 @@ fn put_net(image: &mut [u8], net: netlist::Netlist)
 }
 
 // Writes a net sheet: the checks 3 to 6, then 16.
-pub fn write_net(net: netlist::Netlist, image: &mut [u8]) -> Wrote
+pub fn write_net(net: netlist::Netlist, image: &mut [u8]) -> layout::Wrote
     ensures { λ r. ⌜ (r ≡ netWrote net (length (now (image .entry)))) × (now (image .exit) ≡ netWritten net (now (image .entry))) ⌝ }
 {
     let v = netlist::check_net(net);
     if v.answer != 0 {
-        return Wrote {
+        return layout::Wrote {
             answer: v.answer,
             place: v.place,
             length: 0,
@@ -61,14 +54,14 @@ pub fn write_net(net: netlist::Netlist, image: &mut [u8]) -> Wrote
     }
     let size = net.nodes * 12 + net.outputs * 2 + net.labels + 16;
     if image.len() < size {
-        return Wrote {
+        return layout::Wrote {
             answer: 16,
             place: 0,
             length: 0,
         };
     }
     put_net(image, net);
-    Wrote {
+    layout::Wrote {
         answer: 0,
         place: 0,
         length: size,

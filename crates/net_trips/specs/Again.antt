@@ -6,7 +6,7 @@ use lib.Dec.{eqb, leb}
 use lib.ListN.{length, drop}
 use Rattle.netlist.specs.declared.Netlist.{Netlist}
 use Rattle.netlist.specs.Netlists.{noNet}
-use Rattle.net_sheet.specs.declared.write.Wrote.{Wrote}
+use Rattle.layout.specs.declared.write.Wrote.{Wrote}
 use Rattle.net_sheet.specs.declared.read.NetRead.{NetRead}
 use Rattle.net_sheet.specs.Reading.{sheetVerdict}
 use Rattle.net_sheet.specs.Writing.{writeVerdict}

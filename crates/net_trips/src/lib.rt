@@ -5,7 +5,7 @@ ghost use Rattle.net_trips.specs.Again.{copied, copiedInto, reread};
 ghost use Rattle.net_sheet.specs.Writing.{netWritten};
 
 // Reads a sheet and writes what was read.
-pub fn copy_net(sheet: &[u8], image: &mut [u8]) -> net_sheet::Wrote
+pub fn copy_net(sheet: &[u8], image: &mut [u8]) -> layout::Wrote
     ensures { λ r. ⌜ (r ≡ copied (now (sheet .entry)) (length (now (image .entry)))) × (now (image .exit) ≡ copiedInto (now (sheet .entry)) (now (image .entry))) ⌝ }
 {
     let got = net_sheet::read_net(sheet);
@@ -13,7 +13,7 @@ pub fn copy_net(sheet: &[u8], image: &mut [u8]) -> net_sheet::Wrote
     if got.answer == 0 {
         net_sheet::write_net(net, image)
     } else {
-        net_sheet::Wrote {
+        layout::Wrote {
             answer: got.answer,
             place: got.place,
             length: 0,

@@ -5,9 +5,14 @@ use Rattle.netlist.proofs.no_net.Kinds as no-net-kinds
 use Rattle.netlist.proofs.no_net.Reads as no-net
 use Rattle.netlist.proofs.check_net.Kinds as check-net-kinds
 use Rattle.netlist.proofs.check_net.Reads as check-net
+use Rattle.netlist.proofs.numbers_good.Kinds as numbers-good-kinds
+use Rattle.netlist.proofs.numbers_good.Reads as numbers-good
 
 pub no-net-one : OneResult 0 no-net-kinds.ps no-net-kinds.r no-net.Post
 no-net-one κs a r r′ x x′ p q = p ∙ sym q
 
 pub check-net-one : OneResult 0 check-net-kinds.ps check-net-kinds.r check-net.Post
 check-net-one κs a r r′ x x′ p q = p ∙ sym q
+
+pub numbers-good-one : OneResult 0 numbers-good-kinds.ps numbers-good-kinds.r numbers-good.Post
+numbers-good-one κs a r r′ x x′ p q = p ∙ sym q

@@ -7,7 +7,7 @@ ghost use Rattle.base.specs.Checks.{lowest, verdict};
 ghost use Rattle.codes.specs.Records.{recordGood};
 ghost use Rattle.layout.specs.Labels.{labelCheck};
 ghost use Rattle.netlist.specs.Netlists.{noNet, recordIn, outputIn};
-ghost use Rattle.netlist.specs.Checks.{entryChecks, netChecks};
+ghost use Rattle.netlist.specs.Checks.{numbersGood, entryChecks, netChecks};
 
 // What a net sheet says. Node fields are one array each, and a netlist that was read has zeros past its counts.
 pub struct Netlist {
@@ -130,14 +130,21 @@ fn check_entries(net: Netlist) -> base::Verdict
     }
 }
 
-// The checks 3 to 6.
-pub fn check_net(net: Netlist) -> base::Verdict
-    ensures { λ r. ⌜ r ≡ verdict (netChecks net) ⌝ }
+// Check 3: nodes, outputs and label bytes are within their numbers.
+pub fn numbers_good(net: Netlist) -> bool
+    ensures { λ r. ⌜ r ≡ numbersGood net ⌝ }
 {
     let nodes = net.nodes;
     let outputs = net.outputs;
     let bytes = net.labels;
-    if (1 <= nodes) & (nodes <= 1024) & (outputs <= 64) & (bytes <= 4096) {
+    (1 <= nodes) & (nodes <= 1024) & (outputs <= 64) & (bytes <= 4096)
+}
+
+// The checks 3 to 6.
+pub fn check_net(net: Netlist) -> base::Verdict
+    ensures { λ r. ⌜ r ≡ verdict (netChecks net) ⌝ }
+{
+    if numbers_good(net) {
         check_entries(net)
     } else {
         base::Verdict {

@@ -12,7 +12,7 @@ use Rattle.layout.specs.Labels.{labelCheck, labelsFrom}
 use Rattle.netlist.specs.declared.Netlist.{Netlist}
 use Rattle.netlist.specs.Netlists.{outputOf}
 use Rattle.netlist.specs.Checks.{netChecks}
-use Rattle.cycles.specs.Netlists.{isReg}
+use Rattle.codes.specs.Rows.{isReg}
 use Rattle.cycles.specs.Pass.{fillFrom}
 use Rattle.cycles.specs.Steps.{netIn, Registers, firstRegisters, Cycles, registersAfter, outputsAfter, Stepped, StepsPromise}
 

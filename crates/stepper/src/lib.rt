@@ -3,7 +3,7 @@ ghost use mathlib.Core.Path.{_≡_};
 ghost use mathlib.Core.Bool.{cond};
 ghost use lib.ListN.{getD, replicate};
 ghost use Rattle.base.specs.Lists.{fill};
-ghost use Rattle.cycles.specs.Netlists.{isReg};
+ghost use Rattle.codes.specs.Rows.{isReg};
 ghost use Rattle.cycles.specs.Steps.{netIn, firstRegisters, StepsPromise};
 
 // The public functions below lend a netlist's fields to these three, at one lifetime.

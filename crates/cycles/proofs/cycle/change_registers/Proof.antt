@@ -8,7 +8,7 @@ use denote.Ref.{now}
 use lib.ListN.{getD}
 use Rattle.base.specs.Lists.{fill}
 use Rattle.base.proofs.Fill.{fill-none, fill-step, fill-end}
-use Rattle.cycles.specs.Netlists.{isReg}
+use Rattle.codes.specs.Rows.{isReg}
 use Rattle.cycles.specs.Pass.{nextIn}
 use Rattle.cycles.proofs.cycle.change_registers.Statement.{statement}
 use Rattle.cycles.proofs.cycle.change_registers.Tie as tie

@@ -7,7 +7,7 @@ use borrow.Author.Needs.{needs}
 use lib.ListN.{getD, replicate}
 use Rattle.base.specs.Lists.{fill}
 use Rattle.base.proofs.Fill.{fill-none, fill-step, fill-clipped}
-use Rattle.cycles.specs.Netlists.{isReg}
+use Rattle.codes.specs.Rows.{isReg}
 use Rattle.cycles.proofs.step.first_registers_in.Statement.{statement}
 use Rattle.cycles.proofs.step.first_registers_in.Tie as tie
 
