@@ -103,3 +103,12 @@ lowest-bad good n p = (
   λ e. let f = lowest-from good n 0 p e in record { within = omega (arith, f .within); bad = f .bad; before = λ k h. f .before k (omega arith) h },
   λ f. found-at good n 0 p (omega arith) (omega (arith, f .within)) (f .bad) (λ k l h. f .before k h),
 )
+
+-- two tests that agree on the entries find the same
+firsts-same : (f g : ℕ → Bool) (d i : ℕ) → ((k : ℕ) → i ≤ k → k < i + d → f k ≡ g k) → firstBad f d i ≡ firstBad g d i
+unfolding firstBad
+firsts-same f g zero i h = refl
+firsts-same f g (suc d) i h = rw (h i (omega arith) (omega arith), firsts-same f g d (suc i) (λ k l m. h k (omega arith) (omega arith)))
+
+pub lowest-same : (f g : ℕ → Bool) (n : ℕ) → ((k : ℕ) → k < n → f k ≡ g k) → lowest f n ≡ lowest g n
+lowest-same f g n h = firsts-same f g n 0 (λ k l m. h k (omega arith))

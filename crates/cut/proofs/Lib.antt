@@ -1,0 +1,5 @@
+pub mod One
+pub mod Ends
+pub mod Answers
+pub mod Within
+pub mod Trims

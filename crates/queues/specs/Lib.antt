@@ -1,0 +1,4 @@
+pub mod Lists
+pub mod Queues
+pub mod Found
+pub mod Pass
