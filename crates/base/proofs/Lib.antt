@@ -10,3 +10,4 @@ pub mod Windows
 pub mod One
 pub mod Exact
 pub mod Lent
+pub mod Arrays

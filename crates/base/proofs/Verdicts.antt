@@ -44,6 +44,13 @@ pub verdict-more : (cs ds : List (ℕ × Check)) → AllGood cs → verdict (cs 
 verdict-more [] ds g = refl
 verdict-more ((n, c) ∷ cs) ds g = verdict-good n c (cs ++ ds) (g .0) ∙ verdict-more cs ds (g .1)
 
+-- all of two lists are good: so are those of each
+pub good-apart : (cs ds : List (ℕ × Check)) → AllGood (cs ++ ds) → AllGood cs × AllGood ds
+good-apart [] ds g = (tt, g)
+good-apart ((n, c) ∷ cs) ds g =
+    let r = good-apart cs ds (g .1) in
+    ((g .0, r .0), r .1)
+
 kept : (n : ℕ) (c : Check) (v w : Verdict) → (orElse n c v .answer ≡ 0 → ⊥) → ((v .answer ≡ 0 → ⊥) → w ≡ v) → orElse n c w ≡ orElse n c v
 kept n Good v w h f = f h
 kept n (Bad p) v w h f = refl

@@ -13,6 +13,7 @@ use lib.Pow.{pow-pos}
 use lib.Seq.{getD-drop}
 use Rattle.base.specs.Checks.{AllGood}
 use Rattle.base.specs.Lists.{fill}
+use Rattle.base.proofs.Arrays.{zeros-at}
 use Rattle.base.proofs.Fill.{fill-at, fill-past, fill-length, fill-same}
 use Rattle.base.proofs.Tests.{every-at}
 use Rattle.base.proofs.Verdicts.{good-all, whole-good}
@@ -30,7 +31,7 @@ use Rattle.cycles.proofs.Accepted.{good-record, register-operand}
 use Rattle.cycles.proofs.Answers.{bounds}
 use Rattle.cycles.proofs.Below.{register-widths, solves-below}
 use Rattle.cycles.proofs.Streams.{runs-cycle, valuesFrom, cycles-exist}
-use Rattle.cycles.proofs.Turns.{zeros-at, held-is}
+use Rattle.cycles.proofs.Turns.{held-is}
 
 pub steps-are-the-run : StepsAreTheRun
 steps-are-the-run n g cycles ins outs regs′ outs′ x s v b h = x .done refl v (runs-cycle n g s v ins cycles b h)

@@ -12,6 +12,7 @@ use lib.ListN.{length, getD, replicate}
 use lib.Seq.{ext-getD}
 use Rattle.base.specs.Checks.{AllGood}
 use Rattle.base.specs.Lists.{fill}
+use Rattle.base.proofs.Arrays.{zeros-at}
 use Rattle.base.proofs.Fill.{fill-at, fill-past, fill-length, fill-same}
 use Rattle.base.proofs.First.{lowest-good}
 use Rattle.base.proofs.Verdicts.{whole-good}
@@ -41,11 +42,6 @@ from-same : (m : ℕ) (f g : ℕ → ℕ) (n : ℕ) (xs : List ℕ) → ((k : �
 unfolding fillFrom
 from-same m f g zero xs h = refl
 from-same m f g (suc n) xs h = rw (from-same m f g n xs (λ k l. h k (omega arith)), h n (omega arith))
-
-pub zeros-at : (m i : ℕ) → _≡_ {A = ℕ} (getD (replicate m 0) i 0) 0
-zeros-at zero i = refl
-zeros-at (suc m) zero = refl
-zeros-at (suc m) (suc i) = zeros-at m i
 
 module _ (n : Netlist) (g : AllGood (netChecks n)) (w : Within n) (regs : List ℕ) (rg : Registers n regs) (v : ℕ → ℕ → ℕ) where
   -- the registers after t cycles, element by element

@@ -21,7 +21,8 @@ pub record Found (letter : ℕ) (s : List ℕ) : Type 0 where
   pub good : trailerGood letter s ≡ true
   pub is : sectionsOf letter s ≡ named s
 
-split : (letter : ℕ) (s : List ℕ) (b : Bool) → (leb 16 (length s) && trailerGood letter s) ≡ b → sectionsOf letter s ≡ cond b (named s) noSections
+-- the sections, by whether the sheet is long enough and its trailer good
+pub split : (letter : ℕ) (s : List ℕ) (b : Bool) → (leb 16 (length s) && trailerGood letter s) ≡ b → sectionsOf letter s ≡ cond b (named s) noSections
 unfolding sectionsOf
 split letter s b e = rw e
 

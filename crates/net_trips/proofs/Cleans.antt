@@ -1,33 +1,17 @@
 -- What the reader gives has values of its types, and zeros past its counts.
-use mathlib.Core.Path.{_≡_, refl, _∙_}
-use mathlib.Core.Bool.{Bool, true, false}
 use mathlib.Core.List.{List}
-use Prim.Native.Nat.{ℕ, _+_, _*_, _/_, _<_, _≤_}
-use native.Mathlib.Omega.{arith}
-use borrow.Author.Tests.{leb-true, leb-false}
-use lib.Dec.{leb, lit<}
-use lib.ListN.{getD, replicate, length-replicate}
+use Prim.Native.Nat.{ℕ, _+_, _*_, _/_}
+use lib.Dec.{lit<}
+use lib.ListN.{getD}
+use Rattle.base.specs.Arrays.{Bytes}
 use Rattle.base.specs.Bytes.{twoAt}
-use Rattle.base.specs.Lists.{fill}
+use Rattle.base.proofs.Arrays.{fill-zeros, fill-typed, zeros-typed, zeros-clean}
 use Rattle.base.proofs.Bytes.{two-below, four-below}
-use Rattle.base.proofs.Fill.{fill-at, fill-length}
 use Rattle.netlist.specs.Netlists.{noNet}
 use Rattle.netlist.proofs.Numbers.{Within}
 use Rattle.net_sheet.specs.Reading.{recordAt, netFrom}
-use Rattle.net_trips.specs.Typed.{Bytes, Array, Typed}
-use Rattle.net_trips.specs.Trips.{ZerosFrom, Clean}
-use Rattle.net_trips.proofs.Trims.{fill-zeros}
-
-each-on : (f : ℕ → ℕ) (m n b : ℕ) → n ≤ m → 0 < b → ((i : ℕ) → f i < b) → (i : ℕ) (t : Bool) → leb n i ≡ t → getD (fill f n (replicate m 0)) i 0 < b
-each-on f m n b l p h i true e = rw (fill-zeros f m n i (leb-true n i e)) p
-each-on f m n b l p h i false e = rw (fill-at f n i (replicate m 0) (leb-false n i e) (rw (length-replicate {A = ℕ} m 0) l)) (h i)
-
-pub fill-typed : (f : ℕ → ℕ) (m n b : ℕ) → n ≤ m → 0 < b → ((i : ℕ) → f i < b) → Array m b (fill f n (replicate m 0))
-fill-typed f m n b l p h =
-    record {
-      long = fill-length f n (replicate m 0) ∙ length-replicate m 0;
-      each = λ i. each-on f m n b l p h i (leb n i) refl;
-    }
+use Rattle.net_trips.specs.Typed.{Typed}
+use Rattle.net_trips.specs.Trips.{Clean}
 
 module _ (s : List ℕ) (b : Bytes s) (F M L : ℕ) where
   pub from-typed : Within (netFrom s F M L) → Typed (netFrom s F M L)
@@ -58,15 +42,7 @@ module _ (s : List ℕ) (b : Bytes s) (F M L : ℕ) where
         label = fill-zeros (λ j. getD s (F + M + j) 0) 4096 L;
       }
 
--- the netlist of zeros: filled with nothing
-zeros-typed : (m b : ℕ) → 0 < b → Array m b (replicate m 0)
-unfolding fill
-zeros-typed m b p = fill-typed (λ i. 0) m 0 b (omega arith) p (λ i. p)
-
-zeros-clean : (m : ℕ) → ZerosFrom 0 (replicate m 0)
-unfolding fill
-zeros-clean m = fill-zeros (λ i. 0) m 0
-
+-- the netlist of zeros
 pub none-typed : Typed noNet
 unfolding noNet
 none-typed =

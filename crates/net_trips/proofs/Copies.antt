@@ -1,5 +1,5 @@
 -- A sheet that passes the checks 1 to 3 is the image of its netlist: section by section, each byte by the number it belongs to.
-use mathlib.Core.Path.{_≡_, refl, sym, _∙_, ap}
+use mathlib.Core.Path.{_≡_, _∙_, ap}
 use mathlib.Core.Bool.{true, _&&_}
 use mathlib.Core.List.{List, [], _∷_, _++_}
 use Prim.Native.Nat.{ℕ, _+_, _*_, _/_, _%_, _<_, _≤_}
@@ -7,21 +7,21 @@ use native.Mathlib.Nat.{add-zero}
 use native.Mathlib.Omega.{arith}
 use borrow.Author.Tests.{eqb-true}
 use lib.Dec.{eqb}
-use lib.ListN.{length, getD, take, drop, replicate, length-drop}
-use lib.Seq.{drop-drop, take-all}
-use Rattle.base.specs.Bytes.{two, four, twoAt, fourAt, le2, le4}
+use lib.ListN.{length, getD, take, drop, replicate}
+use lib.Seq.{drop-drop}
+use Rattle.base.specs.Arrays.{Bytes}
+use Rattle.base.specs.Bytes.{two, four, twoAt, le2, le4}
 use Rattle.base.proofs.Bytes.{le2-two, le4-four}
 use Rattle.base.proofs.Fill.{fill-at}
 use Rattle.base.proofs.Flat.{flat-front}
 use Rattle.base.proofs.Tests.{and-left, and-right}
-use Rattle.base.proofs.Windows.{from, window, fill-window, in-four}
-use Rattle.layout.specs.Trailer.{trailerAt, trailerGood, frontBytes, middleBytes, labelBytes, trailerBytes}
-use Rattle.layout.proofs.Found.{rules, fills}
+use Rattle.base.proofs.Windows.{window, fill-window}
+use Rattle.layout.specs.Trailer.{trailerGood, frontBytes, middleBytes, labelBytes, trailerBytes}
+use Rattle.layout.proofs.Stretches.{stretches, stretches-fill}
 use Rattle.netlist.specs.Netlists.{recordOf, outputOf, labelsOf}
 use Rattle.netlist.proofs.Numbers.{Within}
 use Rattle.net_sheet.specs.Image.{recordBytes, recordSection, outputSection, netLetter, netImage}
 use Rattle.net_sheet.specs.Reading.{recordAt, netFrom, netOf, netTrailerGood}
-use Rattle.net_trips.specs.Typed.{Bytes}
 
 -- twelve bytes, as a record and as they were
 twelve : (x0 x1 x2 x3 x4 x5 x6 x7 x8 x9 x10 x11 : ℕ) → x0 < 256 → x1 < 256 → x2 < 256 → x3 < 256 → x4 < 256 → x5 < 256 → x6 < 256 → x7 < 256 → x8 < 256 → x9 < 256 → x10 < 256 → x11 < 256
@@ -52,14 +52,6 @@ record-bytes s i b h =
 pub output-bytes : (s : List ℕ) (f j : ℕ) → Bytes s → f + j * 2 + 2 ≤ length s → le2 (twoAt s (f + j * 2)) ≡ take 2 (drop (j * 2) (drop f s))
 output-bytes s f j b h =
     rw (le2-two (getD s (f + j * 2) 0) (getD s (f + j * 2 + 1) 0) (b (f + j * 2)) (b (f + j * 2 + 1)), drop-drop (j * 2) f s, window s (f + j * 2) 2 h, add-zero (f + j * 2))
-
--- twelve bytes as three distances
-sixteen : (x0 x1 x2 x3 x4 x5 x6 x7 x8 x9 x10 x11 letter : ℕ) → x0 < 256 → x1 < 256 → x2 < 256 → x3 < 256 → x4 < 256 → x5 < 256 → x6 < 256 → x7 < 256 → x8 < 256 → x9 < 256 → x10 < 256 → x11 < 256
-    → le4 (four x0 x1 x2 x3) ++ le4 (four x4 x5 x6 x7) ++ le4 (four x8 x9 x10 x11) ++ le2 1 ++ (0x53 ∷ letter ∷ []) ≡ x0 ∷ x1 ∷ x2 ∷ x3 ∷ x4 ∷ x5 ∷ x6 ∷ x7 ∷ x8 ∷ x9 ∷ x10 ∷ x11 ∷ 1 ∷ 0 ∷ 0x53 ∷ letter ∷ []
-sixteen x0 x1 x2 x3 x4 x5 x6 x7 x8 x9 x10 x11 letter h0 h1 h2 h3 h4 h5 h6 h7 h8 h9 h10 h11 =
-    ap (λ l. l ++ le4 (four x4 x5 x6 x7) ++ le4 (four x8 x9 x10 x11) ++ le2 1 ++ (0x53 ∷ letter ∷ [])) (le4-four x0 x1 x2 x3 h0 h1 h2 h3)
-    ∙ ap (λ l. (x0 ∷ x1 ∷ x2 ∷ x3 ∷ []) ++ l ++ le4 (four x8 x9 x10 x11) ++ le2 1 ++ (0x53 ∷ letter ∷ [])) (le4-four x4 x5 x6 x7 h4 h5 h6 h7)
-    ∙ ap (λ l. (x0 ∷ x1 ∷ x2 ∷ x3 ∷ x4 ∷ x5 ∷ x6 ∷ x7 ∷ []) ++ l ++ le2 1 ++ (0x53 ∷ letter ∷ [])) (le4-four x8 x9 x10 x11 h8 h9 h10 h11)
 
 -- the two rules of the net sheet's own
 pub even : (s : List ℕ) → netTrailerGood s ≡ true → middleBytes s / 2 * 2 ≡ middleBytes s
@@ -107,47 +99,19 @@ module _ (s : List ℕ) (b : Bytes s) (F M L : ℕ) (h12 : F / 12 * 12 ≡ F) (h
   unfolding netFrom
   labels-same = fill-window s (replicate 4096 0) (F + M) L (omega arith) few-labels
 
-  trailer-same : (letter t : ℕ) → t ≡ F + M + L → fourAt s t ≡ L → fourAt s (t + 4) ≡ M + L → fourAt s (t + 8) ≡ F + (M + L) → twoAt s (t + 12) ≡ 1 → getD s (t + 14) 0 ≡ 0x53 → getD s (t + 15) 0 ≡ letter → trailerBytes F M L letter ≡ drop t s
-  trailer-same letter t e p q r u v w =
-      let x : ℕ → ℕ = λ j. getD s (t + j) 0 in
-      let y : (j : ℕ) → x j < 256 = λ j. b (t + j) in
-      let e0 : t + 0 ≡ t = add-zero t in
-      let e5 : t + 4 + 1 ≡ t + 5 = omega arith in
-      let e6 : t + 4 + 2 ≡ t + 6 = omega arith in
-      let e7 : t + 4 + 3 ≡ t + 7 = omega arith in
-      let e9 : t + 8 + 1 ≡ t + 9 = omega arith in
-      let e10 : t + 8 + 2 ≡ t + 10 = omega arith in
-      let e11 : t + 8 + 3 ≡ t + 11 = omega arith in
-      let e13 : t + 12 + 1 ≡ t + 13 = omega arith in
-      let p′ : four (x 0) (x 1) (x 2) (x 3) ≡ L = rw e0 p in
-      let q′ : four (x 4) (x 5) (x 6) (x 7) ≡ M + L = rw (e5, e6, e7) at q in
-      let r′ : four (x 8) (x 9) (x 10) (x 11) ≡ F + (M + L) = rw (e9, e10, e11) at r in
-      let u′ : two (x 12) (x 13) ≡ 1 = rw e13 at u in
-      let x12 : x 12 ≡ 1 = omega (arith, y 12, y 13) in
-      let x13 : x 13 ≡ 0 = omega (arith, y 12, y 13) in
-      let all : drop t s ≡ from x 16 0 = sym (take-all 16 (drop t s) (rw (length-drop t s) (omega arith))) ∙ window s t 16 (omega arith) in
-      ap (λ l. le4 l ++ le4 (M + L) ++ le4 (F + (M + L)) ++ le2 1 ++ (0x53 ∷ letter ∷ [])) (sym p′)
-      ∙ ap (λ l. le4 (four (x 0) (x 1) (x 2) (x 3)) ++ le4 l ++ le4 (F + (M + L)) ++ le2 1 ++ (0x53 ∷ letter ∷ [])) (sym q′)
-      ∙ ap (λ l. le4 (four (x 0) (x 1) (x 2) (x 3)) ++ le4 (four (x 4) (x 5) (x 6) (x 7)) ++ le4 l ++ le2 1 ++ (0x53 ∷ letter ∷ [])) (sym r′)
-      ∙ sixteen (x 0) (x 1) (x 2) (x 3) (x 4) (x 5) (x 6) (x 7) (x 8) (x 9) (x 10) (x 11) letter (y 0) (y 1) (y 2) (y 3) (y 4) (y 5) (y 6) (y 7) (y 8) (y 9) (y 10) (y 11)
-      ∙ sym (all ∙ rw (x12, x13, v, w))
-
   -- the whole sheet
-  pub image-same : (t : ℕ) → t ≡ F + M + L → fourAt s t ≡ L → fourAt s (t + 4) ≡ M + L → fourAt s (t + 8) ≡ F + (M + L) → twoAt s (t + 12) ≡ 1 → getD s (t + 14) 0 ≡ 0x53 → getD s (t + 15) 0 ≡ netLetter → netImage (netFrom s F M L) ≡ s
+  pub image-same : take F s ++ take M (drop F s) ++ take L (drop (F + M) s) ++ trailerBytes F M L netLetter ≡ s → netImage (netFrom s F M L) ≡ s
   unfolding netImage netFrom
-  image-same t e p q r u v w =
+  image-same all =
       ap (λ l. l ++ outputSection (netFrom s F M L) ++ labelsOf (netFrom s F M L) ++ trailerBytes (F / 12 * 12) (M / 2 * 2) L netLetter) records-same
       ∙ ap (λ l. take F s ++ l ++ labelsOf (netFrom s F M L) ++ trailerBytes (F / 12 * 12) (M / 2 * 2) L netLetter) outputs-same
       ∙ ap (λ l. take F s ++ take M (drop F s) ++ l ++ trailerBytes (F / 12 * 12) (M / 2 * 2) L netLetter) labels-same
       ∙ ap (λ l. take F s ++ take M (drop F s) ++ take L (drop (F + M) s) ++ trailerBytes l (M / 2 * 2) L netLetter) h12
       ∙ ap (λ l. take F s ++ take M (drop F s) ++ take L (drop (F + M) s) ++ trailerBytes F l L netLetter) h2
-      ∙ ap (λ l. take F s ++ take M (drop F s) ++ take L (drop (F + M) s) ++ l) (trailer-same netLetter t e p q r u v w ∙ ap (λ m. drop m s) e)
-      ∙ in-four s F M L
+      ∙ all
 
 -- A sheet that passes the checks 1 to 3 is the image of its netlist.
 pub image-of : (s : List ℕ) → Bytes s → 16 ≤ length s → netTrailerGood s ≡ true → Within (netOf s) → netImage (netOf s) ≡ s
 unfolding netFrom
 image-of s b long g w =
-    let r = rules netLetter s (shared s g) in
-    let f = fills netLetter s (shared s g) in
-    image-same s b (frontBytes s) (middleBytes s) (labelBytes s) (twelves s g) (even s g) (omega arith) (w .nodes) (w .outputs) (w .labels) (trailerAt s) (omega arith) refl (omega arith) (omega arith) (r .edition) (r .first-letter) (r .second-letter)
+    image-same s b (frontBytes s) (middleBytes s) (labelBytes s) (twelves s g) (even s g) (stretches-fill netLetter s long (shared s g)) (w .nodes) (w .outputs) (w .labels) (stretches netLetter s long (shared s g) b)

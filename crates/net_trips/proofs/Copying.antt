@@ -7,13 +7,14 @@ use native.Mathlib.Omega.{arith}
 use borrow.Author.Tests.{leb-true, leb-false, eq-eqb, ne-eqb}
 use lib.Dec.{leb}
 use lib.ListN.{length}
+use Rattle.base.specs.Arrays.{Bytes}
 use Rattle.base.specs.Checks.{answered}
 use Rattle.base.proofs.Verdicts.{whole-good}
+use Rattle.layout.specs.Write.{wroteAs}
 use Rattle.net_sheet.specs.Reading.{netOf, netTrailerGood, sheetVerdict, netRead}
 use Rattle.net_sheet.specs.Writing.{netWrote, netWritten}
 use Rattle.net_sheet.proofs.Verdicts.{net-within, write-short, wrote-refused}
-use Rattle.net_trips.specs.Typed.{Bytes}
-use Rattle.net_trips.specs.Again.{copied, copiedInto, wroteAs}
+use Rattle.net_trips.specs.Again.{copied, copiedInto}
 use Rattle.net_trips.proofs.Copies.{image-of}
 use Rattle.net_trips.proofs.Trips.{accepted, write-after-read}
 

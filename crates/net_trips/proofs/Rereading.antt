@@ -1,13 +1,13 @@
 -- What writing and then reading leaves, by cases: refused by the writer, or the same netlist.
 use mathlib.Core.Path.{_≡_, _∙_, ap}
-use mathlib.Core.List.{List, _++_}
+use mathlib.Core.List.{List, [], _∷_, _++_}
 use Prim.Native.Nat.{ℕ, _≤_}
 use borrow.Author.Tests.{leb-true, eq-eqb, ne-eqb}
-use lib.Dec.{lit<}
+use lib.Dec.{leb, lit<}
 use lib.ListN.{length, take, drop}
 use lib.Seq.{take-append-seam}
-use Rattle.base.specs.Checks.{verdict}
-use Rattle.base.proofs.Verdicts.{all-good, good-all, whole-good}
+use Rattle.base.specs.Checks.{verdict, whole}
+use Rattle.base.proofs.Verdicts.{all-good, good-all, good-apart, whole-good}
 use Rattle.netlist.specs.declared.Netlist.{Netlist}
 use Rattle.netlist.specs.Netlists.{noNet}
 use Rattle.netlist.specs.Checks.{netChecks}
@@ -35,10 +35,11 @@ module _ (n : Netlist) (old : List ℕ) where
   unfolding netWrote netWritten
   wrote e =
       let g = good-all 1 (writeChecks n (length old)) (lit< tt) (write-rising n (length old)) e in
-      let fits = leb-true (length (netImage n)) (length old) (whole-good _ (g .1 .1 .1 .1 .0)) in
+      let r = good-apart (netChecks n) ((16, whole (leb (length (netImage n)) (length old))) ∷ []) g in
+      let fits = leb-true (length (netImage n)) (length old) (whole-good _ (r .1 .0)) in
       let a = eq-eqb (writeVerdict n (length old) .answer) 0 e in
       record {
-        net-good = ap (λ v. v .answer) (all-good (netChecks n) (g .0, (g .1 .0, (g .1 .1 .0, (g .1 .1 .1 .0, tt)))));
+        net-good = ap (λ v. v .answer) (all-good (netChecks n) (r .0));
         size = rw a;
         room = fits;
         image = rw a;

@@ -1,18 +1,14 @@
 -- What stands past a netlist's counts does not matter: the checks are good with zeros there, and a netlist with zeros there is its own.
-use mathlib.Core.Path.{_≡_, refl, sym, _∙_, ap}
-use mathlib.Core.Bool.{Bool, true, false}
+use mathlib.Core.Path.{_≡_, _∙_, ap}
+use mathlib.Core.Bool.{true}
 use mathlib.Core.List.{List}
-use Prim.Native.Nat.{ℕ, zero, suc, _+_, _<_, _≤_}
-use native.Mathlib.Omega.{arith}
-use borrow.Author.Tests.{leb-true, leb-false}
-use lib.Dec.{leb, ltb}
-use lib.ListN.{length, getD, take, replicate, length-replicate}
-use lib.Seq.{ext-getD}
-use Rattle.base.specs.Lists.{fill}
+use Prim.Native.Nat.{ℕ, _<_, _≤_}
+use lib.Dec.{ltb}
+use lib.ListN.{length, getD}
+use Rattle.base.specs.Arrays.{cleared}
 use Rattle.base.specs.Checks.{AllGood}
-use Rattle.base.proofs.Fill.{fill-same, fill-at, fill-past, fill-length}
+use Rattle.base.proofs.Arrays.{at-cleared, take-cleared, cleared-same}
 use Rattle.base.proofs.First.{lowest-good, good-lowest}
-use Rattle.base.proofs.Windows.{fill-window}
 use Rattle.codes.specs.declared.Record.{Record}
 use Rattle.codes.specs.Rows.{rowAt, placeOf}
 use Rattle.codes.proofs.Apart.{apart, field-below}
@@ -23,7 +19,7 @@ use Rattle.netlist.specs.Netlists.{recordOf, outputOf, labelsOf}
 use Rattle.netlist.specs.Checks.{netChecks}
 use Rattle.netlist.proofs.Numbers.{Within}
 use Rattle.net_trips.specs.Typed.{Typed}
-use Rattle.net_trips.specs.Trips.{cleared, trimmed, ZerosFrom, Clean}
+use Rattle.net_trips.specs.Trips.{trimmed, Clean}
 
 -- a good record looks at widths of nodes alone
 pub same-widths : (ws vs : List ℕ) (nodes i : ℕ) (r : Record) → 0 < nodes → ((x : ℕ) → x < nodes → getD vs x 0 ≡ getD ws x 0) → recordGood ws nodes i r ≡ true → recordGood vs nodes i r ≡ true
@@ -35,10 +31,6 @@ same-widths ws vs nodes i r h same e =
     let lb : r .b < nodes = field-below (ltb 1 count) nodes i (r .code) (r .b) h (g .b-good) in
     let lc : r .c < nodes = field-below (ltb 2 count) nodes i (r .code) (r .c) h (g .c-good) in
     rw (same (r .a) la, same (r .b) lb, same (r .c) lc) e
-
--- an element below the count
-at-cleared : (m n i : ℕ) (xs : List ℕ) → i < n → n ≤ m → getD (cleared m n xs) i 0 ≡ getD xs i 0
-at-cleared m n i xs h l = fill-at (λ j. getD xs j 0) n i (replicate m 0) h (rw (length-replicate {A = ℕ} m 0) l)
 
 module _ (n : Netlist) (w : Within n) where
   record-trimmed : (i : ℕ) → i < n .nodes → recordOf (trimmed n) i ≡ recordOf n i
@@ -56,9 +48,7 @@ module _ (n : Netlist) (w : Within n) where
 
   labels-trimmed : n .labels ≤ length (n .label) → labelsOf (trimmed n) ≡ labelsOf n
   unfolding trimmed
-  labels-trimmed l =
-      ap (λ xs. take (n .labels) xs) (fill-same (λ j. getD (n .label) j 0) (λ j. getD (n .label) (0 + j) 0) (n .labels) (replicate 4096 0) (λ j h. ap (λ k. getD (n .label) k 0) (omega arith)))
-      ∙ fill-window (n .label) (replicate 4096 0) 0 (n .labels) (omega arith) (w .labels)
+  labels-trimmed l = take-cleared 4096 (n .labels) (n .label) l (w .labels)
 
   pub still-good : n .labels ≤ length (n .label) → AllGood (netChecks n) → AllGood (netChecks (trimmed n))
   unfolding trimmed
@@ -81,24 +71,6 @@ module _ (n : Netlist) (w : Within n) where
           ),
         ),
       )
-
-zeros-at : (m i : ℕ) → _≡_ {A = ℕ} (getD (replicate m 0) i 0) 0
-zeros-at zero i = refl
-zeros-at (suc m) zero = refl
-zeros-at (suc m) (suc i) = zeros-at m i
-
--- a list filled so far has zeros from there on
-pub fill-zeros : (f : ℕ → ℕ) (m n : ℕ) → ZerosFrom n (fill f n (replicate m 0))
-fill-zeros f m n i h = fill-past f n i (replicate m 0) h ∙ zeros-at m i
-
-on : (m n : ℕ) (xs : List ℕ) → n ≤ m → ZerosFrom n xs → (i : ℕ) (b : Bool) → leb n i ≡ b → getD (cleared m n xs) i 0 ≡ getD xs i 0
-on m n xs l z i true e = fill-zeros (λ j. getD xs j 0) m n i (leb-true n i e) ∙ sym (z i (leb-true n i e))
-on m n xs l z i false e = at-cleared m n i xs (leb-false n i e) l
-
-pub cleared-same : (m n : ℕ) (xs : List ℕ) → length xs ≡ m → n ≤ m → ZerosFrom n xs → cleared m n xs ≡ xs
-cleared-same m n xs e l z =
-    ext-getD 0 (cleared m n xs) xs (fill-length (λ j. getD xs j 0) n (replicate m 0) ∙ length-replicate m 0 ∙ sym e)
-    (λ i h. on m n xs l z i (leb n i) refl)
 
 -- a clean netlist is its own
 pub trimmed-same : (n : Netlist) → Within n → Typed n → Clean n → trimmed n ≡ n

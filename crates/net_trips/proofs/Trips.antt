@@ -7,6 +7,7 @@ use native.Mathlib.Omega.{arith}
 use borrow.Author.Tests.{leb-true, le-leb, eq-eqb, eqb-true}
 use lib.Dec.{eqb, lit<, lit≤}
 use lib.ListN.{length}
+use Rattle.base.specs.Arrays.{Bytes}
 use Rattle.base.specs.Checks.{whole, done, AllGood}
 use Rattle.base.proofs.Patch.{patch-front}
 use Rattle.base.proofs.Verdicts.{all-good, good-all, whole-good}
@@ -14,7 +15,7 @@ use Rattle.netlist.specs.Netlists.{noNet}
 use Rattle.net_sheet.specs.Image.{netImage}
 use Rattle.net_sheet.specs.Reading.{netOf, netTrailerGood, sheetChecks, sheetVerdict, netRead}
 use Rattle.net_sheet.proofs.Verdicts.{rising, net-good, net-within, read-done, write-done, wrote-done}
-use Rattle.net_trips.specs.Typed.{Bytes, Typed}
+use Rattle.net_trips.specs.Typed.{Typed}
 use Rattle.net_trips.specs.Trips.{WriteAfterRead, ReadAfterWrite, ReadAfterWriteClean, ReadIsClean, ReadIsAccepted, Clean}
 use Rattle.net_trips.proofs.Copies.{image-of}
 use Rattle.net_trips.proofs.Rereads.{long-is, trailer-good, net-of-image}

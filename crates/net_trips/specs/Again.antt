@@ -7,13 +7,11 @@ use lib.ListN.{length, drop}
 use Rattle.netlist.specs.declared.Netlist.{Netlist}
 use Rattle.netlist.specs.Netlists.{noNet}
 use Rattle.layout.specs.declared.write.Wrote.{Wrote}
+use Rattle.layout.specs.Write.{wroteAs}
 use Rattle.net_sheet.specs.declared.read.NetRead.{NetRead}
 use Rattle.net_sheet.specs.Reading.{sheetVerdict}
 use Rattle.net_sheet.specs.Writing.{writeVerdict}
 use Rattle.net_trips.specs.Trips.{trimmed}
-
-abbrev pub wroteAs : ℕ → ℕ → ℕ → Wrote
-wroteAs n p l = record { answer = n; place = p; length = l }
 
 -- the same bytes, or the reader's refusal, or 16
 unfoldable pub copied : List ℕ → ℕ → Wrote

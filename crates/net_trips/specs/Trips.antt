@@ -2,15 +2,15 @@
 use mathlib.Core.Path.{_≡_}
 use mathlib.Core.List.{List, _++_}
 use Prim.Native.Nat.{ℕ, _≤_}
-use lib.ListN.{length, getD, drop, replicate}
-use Rattle.base.specs.Lists.{fill}
+use lib.ListN.{length, drop}
+use Rattle.base.specs.Arrays.{Bytes, cleared, ZerosFrom}
 use Rattle.base.specs.Checks.{verdict, AllGood}
 use Rattle.netlist.specs.declared.Netlist.{Netlist}
 use Rattle.netlist.specs.Checks.{netChecks}
 use Rattle.net_sheet.specs.Image.{netImage}
 use Rattle.net_sheet.specs.Reading.{netRead}
 use Rattle.net_sheet.specs.Writing.{netWrote, netWritten}
-use Rattle.net_trips.specs.Typed.{Bytes, Typed}
+use Rattle.net_trips.specs.Typed.{Typed}
 
 -- For every sheet that the reader accepts, the writer accepts the netlist; given room it writes exactly that sheet, byte for byte, and gives its length.
 abbrev pub WriteAfterRead : Type 0
@@ -21,10 +21,6 @@ WriteAfterRead =
     → length s ≤ length old
     → (netWrote (netRead s .net) (length old) ≡ record { answer = 0; place = 0; length = length s })
     × (netWritten (netRead s .net) old ≡ s ++ drop (length s) old)
-
--- a list with zeros from n on
-abbrev pub cleared : ℕ → ℕ → List ℕ → List ℕ
-cleared m n xs = fill (λ i. getD xs i 0) n (replicate m 0)
 
 -- a netlist with zeros past its counts
 unfoldable pub trimmed : Netlist → Netlist
@@ -50,10 +46,6 @@ ReadAfterWrite =
     → Typed n
     → verdict (netChecks n) .answer ≡ 0
     → netRead (netImage n) ≡ record { answer = 0; place = 0; net = trimmed n }
-
--- zeros from n on
-abbrev pub ZerosFrom : ℕ → List ℕ → Type 0
-ZerosFrom n xs = (i : ℕ) → n ≤ i → getD xs i 0 ≡ 0
 
 -- everything past a count is zero
 pub record Clean (n : Netlist) : Type 0 where

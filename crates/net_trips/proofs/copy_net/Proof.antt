@@ -4,10 +4,10 @@ use native.Mathlib.Omega.{arith}
 use borrow.Author.Needs.{needs}
 use denote.Ref.{now}
 use lib.ListN.{length}
+use Rattle.base.specs.Arrays.{Bytes}
+use Rattle.layout.specs.Write.{wroteAs}
 use Rattle.net_sheet.specs.Reading.{netRead}
 use Rattle.net_sheet.specs.Writing.{netWrote, netWritten}
-use Rattle.net_trips.specs.Typed.{Bytes}
-use Rattle.net_trips.specs.Again.{wroteAs}
 use Rattle.net_trips.proofs.Copying.{copy-done, copy-refused}
 use Rattle.net_trips.proofs.copy_net.Statement.{statement}
 use Rattle.net_trips.proofs.copy_net.Tie as tie
