@@ -1,0 +1,5 @@
+pub mod Images
+pub mod Verdicts
+pub mod Loads
+pub mod Frames
+pub mod One

@@ -1,0 +1,9 @@
+pub mod Copies
+pub mod Rereads
+pub mod Trims
+pub mod Cleans
+pub mod Trips
+pub mod Refusals
+pub mod Copying
+pub mod Rereading
+pub mod One

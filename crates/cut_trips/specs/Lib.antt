@@ -1,0 +1,4 @@
+pub mod Typed
+pub mod Trips
+pub mod Refusals
+pub mod Again

@@ -1,0 +1,4 @@
+pub mod Walk
+pub mod Rules
+pub mod Meaning
+pub mod One
