@@ -4,6 +4,7 @@ pub mod Trims
 pub mod Cleans
 pub mod Trips
 pub mod Refusals
+pub mod Finds
 pub mod Copying
 pub mod Rereading
 pub mod One

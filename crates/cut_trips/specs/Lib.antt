@@ -1,4 +1,5 @@
 pub mod Typed
 pub mod Trips
 pub mod Refusals
+pub mod Finds
 pub mod Again

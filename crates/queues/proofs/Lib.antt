@@ -6,3 +6,4 @@ pub mod Crossings
 pub mod Whole
 pub mod Arrays
 pub mod Same
+pub mod Order

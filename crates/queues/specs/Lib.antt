@@ -1,4 +1,5 @@
 pub mod Lists
 pub mod Queues
 pub mod Found
+pub mod Order
 pub mod Pass
