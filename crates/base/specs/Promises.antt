@@ -17,7 +17,7 @@ OneResult n ps k P =
     → r ≡ r′
 
 -- the same for what is found behind a lent parameter too
-abbrev pub OneOutcome : (n : ℕ) (ps : List (PK n)) (k : RK n) → Out n ps k → ((κs : Lfts n) → AtExit (endedOf n ps k) κs → List ℕ) → Type 0
+abbrev pub OneOutcome : {A : Type 0} (n : ℕ) (ps : List (PK n)) (k : RK n) → Out n ps k → ((κs : Lfts n) → AtExit (endedOf n ps k) κs → A) → Type 0
 OneOutcome n ps k P left =
     (κs : Lfts n) (a : Dens κs ps) (r r′ : resT k κs .Denot) (x x′ : AtExit (endedOf n ps k) κs)
     → P κs a r x
