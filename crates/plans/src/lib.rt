@@ -1,0 +1,170 @@
+// The plan of a network: what opening works out once and no call changes.
+ghost use mathlib.Core.Path.{_≡_};
+ghost use mathlib.Core.Bool.{cond};
+ghost use Prim.Native.Nat.{ℕ, _%_, _<_, _≤_, min};
+ghost use lib.ListN.{getD};
+ghost use Rattle.base.specs.Lists.{fill};
+ghost use Rattle.codes.specs.Rows.{isIn};
+ghost use Rattle.plans.specs.Plans.{tokenAt, readAt, spotOf, firstSpot, joinOf, planOf};
+
+// The nodes' fields with where each operand is read (a node, 1,024 and its queue, or 1,536 for none), and the queues' nodes, ends and depths.
+pub struct Plan {
+    pub limit: u32,
+    pub nodes: usize,
+    pub parts: usize,
+    pub inputs: usize,
+    pub channels: usize,
+    pub outputs: usize,
+    pub queues: usize,
+    pub code: [u8; 1024],
+    pub width: [u8; 1024],
+    pub join: [u8; 1024],
+    pub k: [u32; 1024],
+    pub ra: [u16; 1024],
+    pub rb: [u16; 1024],
+    pub rc: [u16; 1024],
+    pub part: [u8; 1024],
+    pub node: [u16; 512],
+    pub from: [u8; 512],
+    pub into: [u8; 512],
+    pub depth: [u8; 512],
+}
+
+// The place of a queue's oldest token.
+fn token_at(q: u16) -> u16
+    ensures { λ r. ⌜ r ≡ tokenAt q ⌝ }
+{
+    1024 + q % 512
+}
+
+// Where an operand is read.
+fn read_at(used: bool, via: u16, x: u16) -> u16
+    ensures { λ r. ⌜ r ≡ readAt used via x ⌝ }
+{
+    if used {
+        if via < 512 { token_at(via) } else { x }
+    } else {
+        1536
+    }
+}
+
+// Where the first field is read: an IN reads its own queue.
+fn first_at(code: u8, used: bool, via: u16, x: u16, input: u16) -> u16
+    ensures { λ r. ⌜ r ≡ cond (isIn code) (tokenAt input) (readAt used via x) ⌝ }
+{
+    if code == 0x00 {
+        token_at(input)
+    } else {
+        read_at(used, via, x)
+    }
+}
+
+// A stored node number as an index.
+fn inside_of(x: u16) -> usize
+    ensures { λ r. ⌜ (r ≡ x % 1024) × (r < 1024) ⌝ }
+{
+    (x % 1024) as usize
+}
+
+fn least(x: usize, y: usize) -> usize
+    ensures { λ r. ⌜ r ≡ min x y ⌝ }
+{
+    if x <= y { x } else { y }
+}
+
+// The first field of the first n nodes.
+fn fill_first<'x>(
+    code: &'x [u8; 1024],
+    field: &'x [u16; 1024],
+    via: &'x [u16; 1024],
+    input: &'x [u16; 1024],
+    n: usize,
+    spots: &mut [u16; 1024],
+)
+    requires { ⌜ n ≤ 1024 ⌝ }
+    ensures { λ _. ⌜ now (spots .exit) ≡ fill (firstSpot (now (code .entry)) (now (field .entry)) (now (via .entry)) (now (input .entry))) n (now (spots .entry)) ⌝ }
+{
+    let mut i = 0;
+    while i < n {
+        let used = 0 < codes::operand_count(code[i]);
+        spots[i] = first_at(code[i], used, via[i], field[i], input[i]);
+        i += 1;
+    }
+}
+
+// Another field of the first n nodes; s is its number.
+fn fill_spots<'x>(
+    code: &'x [u8; 1024],
+    field: &'x [u16; 1024],
+    via: &'x [u16; 1024],
+    s: u8,
+    n: usize,
+    spots: &mut [u16; 1024],
+)
+    requires { ⌜ n ≤ 1024 ⌝ }
+    ensures { λ _. ⌜ now (spots .exit) ≡ fill (spotOf (now (code .entry)) (now (field .entry)) (now (via .entry)) s) n (now (spots .entry)) ⌝ }
+{
+    let mut i = 0;
+    while i < n {
+        let used = s < codes::operand_count(code[i]);
+        spots[i] = read_at(used, via[i], field[i]);
+        i += 1;
+    }
+}
+
+// The width of the second operand of the first n nodes.
+fn fill_join<'x>(width: &'x [u8; 1024], b: &'x [u16; 1024], n: usize, join: &mut [u8; 1024])
+    requires { ⌜ n ≤ 1024 ⌝ }
+    ensures { λ _. ⌜ now (join .exit) ≡ fill (joinOf (now (width .entry)) (now (b .entry))) n (now (join .entry)) ⌝ }
+{
+    let mut i = 0;
+    while i < n {
+        let x = inside_of(b[i]);
+        join[i] = width[x];
+        i += 1;
+    }
+}
+
+// The plan of a netlist, its cut and its queues, for a cycle limit.
+pub fn make_plan(net: netlist::Netlist, cut: cut::Cut, queues: queues::Queues, limit: u32) -> Plan
+    ensures { λ r. ⌜ r ≡ planOf net cut queues limit ⌝ }
+{
+    let n = least(net.nodes, 1024);
+    let mut join = [0u8; 1024];
+    let mut ra = [0u16; 1024];
+    let mut rb = [0u16; 1024];
+    let mut rc = [0u16; 1024];
+    fill_join(&net.width, &net.b, n, &mut join);
+    fill_first(&net.code, &net.a, &queues.a, &queues.input, n, &mut ra);
+    fill_spots(&net.code, &net.b, &queues.b, 1, n, &mut rb);
+    fill_spots(&net.code, &net.c, &queues.c, 2, n, &mut rc);
+    let code = net.code;
+    let width = net.width;
+    let k = net.k;
+    let part = cut.part;
+    let depth = cut.depth;
+    let node = queues.node;
+    let from = queues.from;
+    let into = queues.into;
+    Plan {
+        limit,
+        nodes: net.nodes,
+        parts: queues.parts,
+        inputs: queues.inputs,
+        channels: queues.channels,
+        outputs: queues.outputs,
+        queues: queues.count,
+        code,
+        width,
+        join,
+        k,
+        ra,
+        rb,
+        rc,
+        part,
+        node,
+        from,
+        into,
+        depth,
+    }
+}
