@@ -1,0 +1,11 @@
+pub mod Lists
+pub mod Net
+pub mod State
+pub mod Actions
+pub mod Rounds
+pub mod Orders
+pub mod Calls
+pub mod Networks
+pub mod Stored
+pub mod Kept
+pub mod Bench
