@@ -5,6 +5,11 @@ ghost use lib.ListN.{length};
 // What a list is filled with before it is lent.
 pub const MARK: u32 = 0xA5A5A5A5;
 
+// The 32-bit number that a text of decimal digits says.
+pub fn number(decimals: &[u8]) -> u32 {
+    (run_text::number(decimals) % 4294967296) as u32
+}
+
 // Puts the numbers of a text into `list`, as many as there is room for, and gives how many they are. A space stands before each.
 pub fn numbers(text: &[u8], list: &mut [u32]) -> usize
     ensures { λ r. ⌜ r ≤ length (now (list .exit)) ⌝ }
@@ -16,8 +21,8 @@ pub fn numbers(text: &[u8], list: &mut [u32]) -> usize
             return n;
         }
         let from = i + 1;
-        let end = crate::text::find(text, from, b' ');
-        list[n] = crate::text::number(&text[from..end]);
+        let end = run_text::find(text, from, b' ');
+        list[n] = number(&text[from..end]);
         n += 1;
         i = end;
     }
@@ -49,7 +54,7 @@ pub fn same(a: &[u32; 1024], b: &[u32; 1024]) -> bool {
 }
 
 fn put(x: u32) {
-    crate::text::put_number(x as u64);
+    run_text::put_number(x as u64);
 }
 
 // Prints the first n numbers.

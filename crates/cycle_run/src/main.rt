@@ -3,11 +3,10 @@
 // tools/cycle_vectors writes the cases and what is to be printed.
 mod lists;
 mod run;
-mod text;
 
-use text::find;
-use text::number;
-use text::past;
+use lists::number;
+use run_text::find;
+use run_text::past;
 
 // The case of a sheet and its inputs, as bytes and numbers.
 fn run_sheet(sheet: &[u8], cycles: u32, room: u32, ins: &[u32]) {
@@ -15,34 +14,39 @@ fn run_sheet(sheet: &[u8], cycles: u32, room: u32, ins: &[u32]) {
     if r.answer == 0 {
         run::both(r.net, cycles, room as usize, ins);
     } else {
-        text::put_word(b"read");
-        text::put_number(r.answer as u64);
-        text::put_number(r.place as u64);
+        run_text::put_word(b"read");
+        run_text::put_number(r.answer as u64);
+        run_text::put_number(r.place as u64);
     }
 }
 
 // The case of a sheet and its inputs, as text.
-fn run_text(hex: &[u8], cycles: u32, room: u32, values: &[u8]) {
+fn run_words(hex: &[u8], cycles: u32, room: u32, values: &[u8]) {
     let mut sheet = [0u8; 20480];
     let mut ins = [0u32; 2048];
-    let n = text::unhex(hex, &mut sheet);
+    let n = run_text::unhex(hex, &mut sheet);
     let m = lists::numbers(values, &mut ins);
     run_sheet(&sheet[0..n], cycles, room, &ins[0..m]);
 }
 
+// The case of cycles, places, and the line from the sheet on.
+fn run_rest(cycles: u32, room: u32, line: &[u8]) {
+    let end = find(line, 0, b' ');
+    run_words(&line[0..end], cycles, room, &line[end..]);
+}
+
+// The case of cycles, and the line from the places on.
+fn run_room(cycles: u32, line: &[u8]) {
+    let end = find(line, 0, b' ');
+    let next = past(line, end);
+    run_rest(cycles, number(&line[0..end]), &line[next..]);
+}
+
 // The case of a line after its name.
 fn run_case(line: &[u8]) {
-    let cycles = find(line, 0, b' ');
-    let second = past(line, cycles);
-    let room = find(line, second, b' ');
-    let third = past(line, room);
-    let sheet = find(line, third, b' ');
-    run_text(
-        &line[third..sheet],
-        number(&line[0..cycles]),
-        number(&line[second..room]),
-        &line[sheet..],
-    );
+    let end = find(line, 0, b' ');
+    let next = past(line, end);
+    run_room(number(&line[0..end]), &line[next..]);
 }
 
 // The case of a line.

@@ -5,11 +5,11 @@ use crate::lists::marked;
 use crate::lists::put_first;
 use crate::lists::put_registers;
 use crate::lists::same;
-use crate::text::least;
-use crate::text::put_either;
-use crate::text::put_number;
-use crate::text::put_word;
 use netlist::Netlist;
+use run_text::least;
+use run_text::put_either;
+use run_text::put_number;
+use run_text::put_word;
 
 // The registers before the first cycle.
 fn first(net: Netlist, regs: &mut [u32; 1024]) {

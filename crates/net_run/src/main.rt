@@ -3,19 +3,19 @@
 // tools/net_vectors writes the cases and what is to be printed.
 mod change;
 mod digest;
-mod text;
 
-use text::find;
-use text::put_hex;
-use text::put_number;
-use text::put_word;
-use text::same;
-use text::unhex;
-use text::untouched;
+use run_text::find;
+use run_text::put_either;
+use run_text::put_hex;
+use run_text::put_number;
+use run_text::put_word;
+use run_text::same;
+use run_text::unhex;
+use run_text::untouched;
 
 // Writes the netlist into the first `room` bytes of the buffer, and prints the answer. Gives the image's length.
 fn attempt(net: netlist::Netlist, buffer: &mut [u8], room: usize) -> usize {
-    let end = text::least(room, buffer.len());
+    let end = run_text::least(room, buffer.len());
     let w = net_sheet::write_net(net, &mut buffer[0..end]);
     put_number(w.answer as u64);
     put_number(w.place as u64);
@@ -25,17 +25,13 @@ fn attempt(net: netlist::Netlist, buffer: &mut [u8], room: usize) -> usize {
 
 // Prints the image, where it is not the sheet, and whether every byte past it is still A5.
 fn show(buffer: &[u8], length: usize, sheet: &[u8]) {
-    let end = text::least(length, buffer.len());
+    let end = run_text::least(length, buffer.len());
     if same(&buffer[0..end], sheet) {
         put_word(b"same");
     } else {
         put_hex(&buffer[0..end]);
     }
-    if untouched(&buffer[end..]) {
-        put_word(b"kept");
-    } else {
-        put_word(b"SPOILT");
-    }
+    put_either(untouched(&buffer[end..], 0xA5), b"kept", b"SPOILT");
 }
 
 // Writes the netlist into the first `room` bytes of a buffer of A5, and prints what came of it. Gives the image's length.
