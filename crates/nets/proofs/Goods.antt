@@ -172,7 +172,7 @@ module _ (n : Netlist) (c : Cut) (g : AllGood (netChecks n)) (h : AllGood (cutCh
       })
 
   -- where a part reads from
-  place-input : (i : ℕ) → isIn (recordOf n i .code) ≡ true → placeIn n (c .part) (partOf (c .part) i) i ≡ inputPlace n (c .part) i
+  pub place-input : (i : ℕ) → isIn (recordOf n i .code) ≡ true → placeIn n (c .part) (partOf (c .part) i) i ≡ inputPlace n (c .part) i
   place-input i e =
       ap (λ b. cond b (inputPlace n (c .part) i) (channelPlace n (c .part) i (partOf (c .part) i))) (and-in e (eq-eqb (partOf (c .part) i) (partOf (c .part) i) refl))
 

@@ -5,6 +5,7 @@ pub mod Only
 pub mod Needs
 pub mod Tables
 pub mod Stores
+pub mod Changes
 pub mod Goods
 pub mod Rounds
 pub mod Orders
@@ -12,6 +13,7 @@ pub mod Calls
 pub mod Bounded
 pub mod Widths
 pub mod Fits
+pub mod Passed
 pub mod Kept
 pub mod OnePass
 pub mod InOrder

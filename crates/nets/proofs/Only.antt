@@ -2,7 +2,7 @@
 -- By induction on the rank, since a view's operands have smaller ones.
 use mathlib.Core.Path.{_≡_, refl, sym, ap, _∙_, subst}
 use mathlib.Core.Logic.{inl}
-use mathlib.Core.Bool.{Bool, cond}
+use mathlib.Core.Bool.{Bool, false, cond}
 use Prim.Native.Nat.{ℕ, zero, suc, _<_}
 use native.Mathlib.Omega.{arith}
 use native.Mathlib.Nat.{not-suc-le-zero, le-refl}
@@ -125,3 +125,47 @@ module _ (N : Net) (G : Good N) (s : State) where
   pub own-needs : (r : ℕ) (t : ℕ → Bool) → ((i : ℕ) → i < N .draw .nodes → N .draw .rank i < r → t i ≡ ownMet N s t i) → (i : ℕ) → i < N .draw .nodes → N .draw .rank i < r → t i ≡ needsMet N s (N .part i) i
   own-needs r t e i n l =
       ap (λ b. cond b (t i) (someToken (s .queue (N .via (N .part i) i)))) (sym (eq-eqb (N .part i) (N .part i) refl)) ∙ there-needs r (N .part i) t e i (here i n) l
+
+  -- ---- one node more: where the nodes of smaller rank are right, so is what its equation says of it
+
+  view-own : (i : ℕ) → view N (N .part i) i ≡ own (N .via (N .part i) i) (N .draw .kind i)
+  unfolding view
+  view-own i = rw (eq-eqb (N .part i) (N .part i) refl)
+
+  view-other : (p a : ℕ) → eqb (N .part a) p ≡ false → view N p a ≡ token (N .via p a)
+  unfolding view
+  view-other p a e = rw e
+
+  read-seen : (w : ℕ → ℕ) (p a : ℕ) → Seen N p a → (N .part a ≡ p → w a ≡ present N s p a) → readIn N s w p a ≡ present N s p a
+  read-seen w p a S h =
+      split-on (λ b. eqb (N .part a) p ≡ b → cond b (w a) (getD (s .queue (N .via p a)) 0 0) ≡ present N s p a) (eqb (N .part a) p)
+      (λ _ e. h (eqb-true (N .part a) p e))
+      (λ _ e. sym (present-solves N G s p a S ∙ ap (valueIn s a (present N s p)) (view-other p a e))) refl
+
+  there-seen : (t : ℕ → Bool) (p a : ℕ) → Seen N p a → (N .part a ≡ p → t a ≡ needsMet N s p a) → thereIn N s t p a ≡ needsMet N s p a
+  there-seen t p a S h =
+      split-on (λ b. eqb (N .part a) p ≡ b → cond b (t a) (someToken (s .queue (N .via p a))) ≡ needsMet N s p a) (eqb (N .part a) p)
+      (λ _ e. h (eqb-true (N .part a) p e))
+      (λ _ e. sym (needs-solve N G s p a S ∙ ap (metIn s (needsMet N s p)) (view-other p a e))) refl
+
+  pub next-present : (w : ℕ → ℕ) (i : ℕ) → i < N .draw .nodes → ((a : ℕ) → a < N .draw .nodes → N .draw .rank a < N .draw .rank i → w a ≡ present N s (N .part a) a)
+      → ownValue N s w i ≡ present N s (N .part i) i
+  next-present w i l h =
+      let p : ℕ = N .part i in
+      ap (valueIn s i (readIn N s w p)) (sym (view-own i))
+      ∙ same-value N G s p i (readIn N s w p) (present N s p) (view N p i) (view-sound N G p i (here i l))
+      (λ a T r. read-seen w p a T (λ e. h a (T .is-node) r ∙ ap (λ x. present N s x a) e))
+      ∙ sym (present-solves N G s p i (here i l))
+
+  pub next-needs : (t : ℕ → Bool) (i : ℕ) → i < N .draw .nodes → ((a : ℕ) → a < N .draw .nodes → N .draw .rank a < N .draw .rank i → t a ≡ needsMet N s (N .part a) a)
+      → ownMet N s t i ≡ needsMet N s (N .part i) i
+  next-needs t i l h =
+      let p : ℕ = N .part i in
+      ap (metIn s (thereIn N s t p)) (sym (view-own i))
+      ∙ same-met N G s p i (thereIn N s t p) (needsMet N s p) (view N p i) (view-sound N G p i (here i l))
+      (λ a T r. there-seen t p a T (λ e. h a (T .is-node) r ∙ ap (λ x. needsMet N s x a) e))
+      ∙ sym (needs-solve N G s p i (here i l))
+
+  -- what part p sees of node a: its own value there, or its channel's token
+  pub seen-present : (w : ℕ → ℕ) (p a : ℕ) → Seen N p a → w a ≡ present N s (N .part a) a → readIn N s w p a ≡ present N s p a
+  seen-present w p a S h = read-seen w p a S (λ e. h ∙ ap (λ x. present N s x a) e)

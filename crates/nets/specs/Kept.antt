@@ -1,4 +1,4 @@
--- What every state that actions reach keeps to, so that its arrays can hold it.
+-- The states that actions reach, and what each of them keeps to, so that its arrays can hold it.
 use mathlib.Core.Path.{_≡_}
 use mathlib.Core.Bool.{false}
 use mathlib.Core.List.{List, []}
@@ -14,7 +14,22 @@ use Rattle.cut.specs.Checks.{cutChecks}
 use Rattle.nets.specs.Net.{Net}
 use Rattle.nets.specs.State.{State, fresh}
 use Rattle.nets.specs.Actions.{Action, step, play}
+use Rattle.nets.specs.Rounds.{run}
+use Rattle.nets.specs.Orders.{Entry, order}
 use Rattle.nets.specs.Networks.{networkOf}
+
+-- a fresh network, after some actions
+pub record Reached (N : Net) (s : State) : Type 0 where
+  pub actions : List Action
+  pub is : s ≡ play N (fresh N) actions
+
+-- Calls go from such a state to such a state.
+pub record Reaching (N : Net) : Type 0 where
+  pub at-first : Reached N (fresh N)
+  pub on : (s : State) → Reached N s → (xs : List Action) → Reached N (play N s xs)
+  pub step : (s : State) → Reached N s → (a : Action) → Reached N (step N s a)
+  pub runs : (s : State) → Reached N s → (k : ℕ) → Reached N (run N s k .state)
+  pub orders : (s : State) → Reached N s → (e : ℕ → Entry) (k : ℕ) → Reached N (order N s e k .state)
 
 pub record Kept (n : Netlist) (N : Net) (s : State) : Type 0 where
   -- no queue holds more than its depth, and what is no queue holds nothing and has its flag off
@@ -51,3 +66,13 @@ PlaysAreKept =
     → (limit : ℕ) (s : State) (xs : List Action)
     → Kept n (networkOf n c limit) s
     → Kept n (networkOf n c limit) (play (networkOf n c limit) s xs)
+
+-- so every state that is reached does
+abbrev pub ReachedIsKept : Type 0
+ReachedIsKept =
+    (n : Netlist) (c : Cut)
+    → AllGood (netChecks n)
+    → AllGood (cutChecks n c)
+    → (limit : ℕ) (s : State)
+    → Reached (networkOf n c limit) s
+    → Kept n (networkOf n c limit) s

@@ -7,5 +7,6 @@ pub mod Orders
 pub mod Calls
 pub mod Networks
 pub mod Stored
+pub mod Passed
 pub mod Kept
 pub mod Bench
