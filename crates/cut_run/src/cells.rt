@@ -2,12 +2,6 @@
 use cut::Cut;
 use queues::Queues;
 
-// A sum that depends on the order, with one number more: the sum so far, times 33, and the number.
-fn with(sum: u32, x: u32) -> u32 {
-    let many = std::num::wrapping_add_u32(sum << 5, sum);
-    std::num::wrapping_add_u32(many, x)
-}
-
 fn wide(x: u8) -> u32 {
     x as u32
 }
@@ -20,7 +14,7 @@ fn with_bytes(start: u32, cells: &[u8]) -> u32 {
     let mut sum = start;
     let mut i = 0;
     while i < cells.len() {
-        sum = with(sum, wide(cells[i]));
+        sum = run_text::sum_with(sum, wide(cells[i]));
         i += 1;
     }
     sum
@@ -30,7 +24,7 @@ fn with_words(start: u32, cells: &[u16]) -> u32 {
     let mut sum = start;
     let mut i = 0;
     while i < cells.len() {
-        sum = with(sum, wide16(cells[i]));
+        sum = run_text::sum_with(sum, wide16(cells[i]));
         i += 1;
     }
     sum

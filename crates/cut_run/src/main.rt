@@ -1,7 +1,7 @@
 // Runs the cut sheet's reader and writer and the label lookup on the cases of standard input, and prints a line for each.
 // A case is a line: its name, the changes to make before writing ('-' for none), the net sheet in hexadecimal ('=' for that of the case
 // before), the cut sheet in hexadecimal, and the nodes whose labels are looked up.
-// tools/cut_vectors writes the cases and what is to be printed: at most 10,000 lines of at most 40,000 bytes, none of them empty.
+// tools/cut_vectors writes the cases and what is to be printed: at most 10,000 lines of at most 48,000 bytes, none of them empty.
 ghost use Prim.Native.Nat.{_≤_};
 ghost use lib.ListN.{length};
 
@@ -99,7 +99,7 @@ fn run_lines(line: &mut [u8], net: &mut [u8]) {
 }
 
 fn main() {
-    let mut line = [0u8; 40000];
+    let mut line = [0u8; 48000];
     let mut net = [0u8; 20480];
     run_lines(&mut line, &mut net);
 }

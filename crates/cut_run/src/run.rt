@@ -4,11 +4,9 @@ use netlist::Netlist;
 use queues::Queues;
 use run_text::least;
 use run_text::put_either;
-use run_text::put_hex;
+use run_text::put_image;
 use run_text::put_number;
 use run_text::put_word;
-use run_text::same;
-use run_text::untouched;
 
 // Writes the cut into the first `room` bytes of the buffer, and prints the answer. Gives the image's length.
 fn attempt(net: Netlist, cut: Cut, buffer: &mut [u8], room: usize) -> usize {
@@ -20,22 +18,11 @@ fn attempt(net: Netlist, cut: Cut, buffer: &mut [u8], room: usize) -> usize {
     w.length
 }
 
-// Prints the image, where it is not the sheet, and whether every byte past it is still A5.
-fn show(buffer: &[u8], length: usize, sheet: &[u8]) {
-    let end = least(length, buffer.len());
-    if same(&buffer[0..end], sheet) {
-        put_word(b"same");
-    } else {
-        put_hex(&buffer[0..end]);
-    }
-    put_either(untouched(&buffer[end..], 0xA5), b"kept", b"SPOILT");
-}
-
 // Writes the cut into the first `room` bytes of a buffer of A5, and prints what came of it. Gives the image's length.
 fn write(net: Netlist, cut: Cut, room: usize, sheet: &[u8]) -> usize {
     let mut buffer = [0xA5u8; 8192];
     let length = attempt(net, cut, &mut buffer, room);
-    show(&buffer, length, sheet);
+    put_image(&buffer, length, sheet);
     length
 }
 

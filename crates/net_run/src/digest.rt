@@ -8,11 +8,10 @@ pub struct Digest {
     pub bits: u32,
 }
 
-// The digest with one number more: the sum so far, times 33, and the number.
+// The digest with one number more.
 fn with(d: Digest, x: u32) -> Digest {
-    let many = std::num::wrapping_add_u32(d.sum << 5, d.sum);
     Digest {
-        sum: std::num::wrapping_add_u32(many, x),
+        sum: run_text::sum_with(d.sum, x),
         bits: d.bits | x,
     }
 }

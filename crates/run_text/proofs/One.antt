@@ -14,10 +14,10 @@ use Rattle.run_text.proofs.unhex.Kinds as unhex-kinds
 use Rattle.run_text.proofs.unhex.Reads as unhex
 use Rattle.run_text.proofs.number.Kinds as number-kinds
 use Rattle.run_text.proofs.number.Reads as number
+use Rattle.run_text.proofs.sum_with.Kinds as sum-with-kinds
+use Rattle.run_text.proofs.sum_with.Reads as sum-with
 use Rattle.run_text.proofs.same.Kinds as same-kinds
 use Rattle.run_text.proofs.same.Reads as same
-use Rattle.run_text.proofs.untouched.Kinds as untouched-kinds
-use Rattle.run_text.proofs.untouched.Reads as untouched
 use Rattle.run_text.proofs.put_word.Kinds as put-word-kinds
 use Rattle.run_text.proofs.put_word.Reads as put-word
 use Rattle.run_text.proofs.put_number.Kinds as put-number-kinds
@@ -26,6 +26,8 @@ use Rattle.run_text.proofs.put_hex.Kinds as put-hex-kinds
 use Rattle.run_text.proofs.put_hex.Reads as put-hex
 use Rattle.run_text.proofs.put_either.Kinds as put-either-kinds
 use Rattle.run_text.proofs.put_either.Reads as put-either
+use Rattle.run_text.proofs.put_image.Kinds as put-image-kinds
+use Rattle.run_text.proofs.put_image.Reads as put-image
 
 pub find-one : OneResult 1 find-kinds.ps find-kinds.r find.Post
 find-one κs a r r′ x x′ p q = p .0 ∙ sym (q .0)
@@ -44,11 +46,11 @@ unhex-one κs a r r′ x x′ p q =
 pub number-one : OneResult 1 number-kinds.ps number-kinds.r number.Post
 number-one κs a r r′ x x′ p q = p ∙ sym q
 
+pub sum-with-one : OneResult 0 sum-with-kinds.ps sum-with-kinds.r sum-with.Post
+sum-with-one κs a r r′ x x′ p q = p ∙ sym q
+
 pub same-one : OneResult 2 same-kinds.ps same-kinds.r same.Post
 same-one κs a r r′ x x′ p q = p ∙ sym q
-
-pub untouched-one : OneResult 1 untouched-kinds.ps untouched-kinds.r untouched.Post
-untouched-one κs a r r′ x x′ p q = p ∙ sym q
 
 pub put-word-one : OneResult 1 put-word-kinds.ps put-word-kinds.r put-word.Post
 put-word-one κs a r r′ x x′ p q = p ∙ sym q
@@ -61,3 +63,6 @@ put-hex-one κs a r r′ x x′ p q = p ∙ sym q
 
 pub put-either-one : OneResult 2 put-either-kinds.ps put-either-kinds.r put-either.Post
 put-either-one κs a r r′ x x′ p q = p ∙ sym q
+
+pub put-image-one : OneResult 2 put-image-kinds.ps put-image-kinds.r put-image.Post
+put-image-one κs a r r′ x x′ p q = p ∙ sym q

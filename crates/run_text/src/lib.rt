@@ -90,6 +90,14 @@ pub fn number(decimals: &[u8]) -> u64
     x
 }
 
+// A sum that depends on the order, with one number more: the sum so far, times 33, and the number, in 32 bits.
+pub fn sum_with(sum: u32, x: u32) -> u32
+    ensures { λ r. ⌜ r ≡ (sum * 33 + x) % 2 ^ 32 ⌝ }
+{
+    let many = std::num::wrapping_add_u32(sum << 5, sum);
+    std::num::wrapping_add_u32(many, x)
+}
+
 // Whether two texts have the same bytes.
 pub fn same(a: &[u8], b: &[u8]) -> bool
     ensures { λ r. ⌜ r ≡ alike (now (a .entry)) (now (b .entry)) ⌝ }
@@ -108,7 +116,7 @@ pub fn same(a: &[u8], b: &[u8]) -> bool
 }
 
 // Whether every byte is the given one.
-pub fn untouched(a: &[u8], filler: u8) -> bool
+fn untouched(a: &[u8], filler: u8) -> bool
     ensures { λ r. ⌜ r ≡ allAre filler (now (a .entry)) ⌝ }
 {
     let mut i = 0;
@@ -162,4 +170,18 @@ pub fn put_either(first: bool, word: &[u8], other: &[u8])
     } else {
         put_word(other);
     }
+}
+
+// Prints the first `length` bytes of a buffer that was filled with A5, where they are not those of the sheet, and whether every byte
+// past them is still A5.
+pub fn put_image(buffer: &[u8], length: usize, sheet: &[u8])
+    ensures { λ r. ⌜ r ≡ tt ⌝ }
+{
+    let end = least(length, buffer.len());
+    if same(&buffer[0..end], sheet) {
+        put_word(b"same");
+    } else {
+        put_hex(&buffer[0..end]);
+    }
+    put_either(untouched(&buffer[end..], 0xA5), b"kept", b"SPOILT");
 }

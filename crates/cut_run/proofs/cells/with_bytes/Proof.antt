@@ -20,8 +20,8 @@ shared-slice-read-wide c = search needs
 wide-requires : tie.Need-wide-requires Inv-loop μ-loop
 wide-requires c κs = search needs
 
-with-requires : tie.Need-with-requires Inv-loop μ-loop
-with-requires c κs = search needs
+sum-with-requires : tie.Need-sum-with-requires Inv-loop μ-loop
+sum-with-requires c κs = search needs
 
 add-i : tie.Need-add-i Inv-loop μ-loop
 add-i c = search needs
@@ -44,7 +44,7 @@ with-bytes-spec =
     loop-holds
     shared-slice-read-wide
     wide-requires
-    with-requires
+    sum-with-requires
     add-i
     loop-less
     loop-again

@@ -23,8 +23,8 @@ shared-slice-read-wide16 c = search needs
 wide16-requires : tie.Need-wide16-requires Inv-loop μ-loop
 wide16-requires c κs = search needs
 
-with-requires : tie.Need-with-requires Inv-loop μ-loop
-with-requires c κs = search needs
+sum-with-requires : tie.Need-sum-with-requires Inv-loop μ-loop
+sum-with-requires c κs = search needs
 
 add-i : tie.Need-add-i Inv-loop μ-loop
 add-i c = search needs
@@ -48,7 +48,7 @@ with-words-spec =
     mul-wide16
     shared-slice-read-wide16
     wide16-requires
-    with-requires
+    sum-with-requires
     add-i
     loop-less
     loop-again
