@@ -50,7 +50,7 @@ byte-on code h false e =
     let z : ⊥ = omega arith in
     absurd z
 
-byte : (code : ℕ) → placeOf code < 19 → code < 256
+pub byte : (code : ℕ) → placeOf code < 19 → code < 256
 byte code h = byte-on code h (ltb code 256) refl
 
 module _ (n : Netlist) (g : AllGood (netChecks n)) (w : Within n) where

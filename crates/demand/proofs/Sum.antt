@@ -132,6 +132,19 @@ module _ (N : Net) (G : Good N) where
   bit-of true k e = e
   bit-of false k e = refl
 
+  nothing-of : (b : Bool) → _≡_ {A = ℕ} (cond b 0 0) 0
+  nothing-of true = refl
+  nothing-of false = refl
+
+  sum-feed : (s : State) (q x : ℕ) → total N s ≡ total N (step N s (feed q x))
+  sum-feed s q x = let e = sum-step N G s (feed q x) in let z = nothing-of (ready N s (feed q x)) in omega arith
+
+  sum-drain : (s : State) (q : ℕ) → total N s ≡ total N (step N s (drain q))
+  sum-drain s q = let e = sum-step N G s (drain q) in let z = nothing-of (ready N s (drain q)) in omega arith
+
+  sum-fire : (s : State) (r : ℕ) → total N s + bit (ready N s (rule N r)) ≡ total N (step N s (rule N r))
+  sum-fire s r = let e = sum-step N G s (rule N r) in let z = bit-of (ready N s (rule N r)) (ruleBit (rule N r)) (rule-bit r) in omega arith
+
   sum-tab : (s : State) (r : ℕ) → total N s + firedBy N s (tab r (rule N)) ≡ total N (play N s (tab r (rule N)))
   unfolding tab firedBy play
   sum-tab s zero = omega arith
@@ -182,4 +195,4 @@ module _ (N : Net) (G : Good N) where
   sum-order s e (suc k) = tried-sum (total N s) (order N s e k) (asked N (e k)) (sum-order s e k)
 
   pub counts : (s : State) → Counts N s
-  counts s = record { round = sum-round s; runs = sum-run s; orders = sum-order s }
+  counts s = record { feeds = sum-feed s; drains = sum-drain s; fire = sum-fire s; round = sum-round s; runs = sum-run s; orders = sum-order s }

@@ -16,7 +16,7 @@ use Rattle.cut.specs.Checks.{cutChecks}
 use Rattle.nets.specs.Lists.{bit}
 use Rattle.nets.specs.Net.{Net}
 use Rattle.nets.specs.State.{State}
-use Rattle.nets.specs.Actions.{Action, ready, room}
+use Rattle.nets.specs.Actions.{Action, feed, drain, ready, room, step}
 use Rattle.nets.specs.Rounds.{ruleCount, rule, roundFires, afterRound, run}
 use Rattle.nets.specs.Orders.{Entry, order}
 use Rattle.nets.specs.Networks.{networkOf}
@@ -81,8 +81,11 @@ pub record SomeReady (N : Net) (s : State) : Type 0 where
 
 -- ---- the firing sum
 
--- what a round, a run or an order counts as fired is what it adds to the sum
+-- What a fire, a round, a run or an order counts as fired is what it adds to the sum; a feed and a drain add nothing.
 pub record Counts (N : Net) (s : State) : Type 0 where
+  pub feeds : (q x : ℕ) → total N s ≡ total N (step N s (feed q x))
+  pub drains : (q : ℕ) → total N s ≡ total N (step N s (drain q))
+  pub fire : (r : ℕ) → total N s + bit (ready N s (rule N r)) ≡ total N (step N s (rule N r))
   pub round : total N s + roundFires N s ≡ total N (afterRound N s)
   pub runs : (k : ℕ) → total N s + run N s k .firings ≡ total N (run N s k .state)
   pub orders : (e : ℕ → Entry) (k : ℕ) → total N s + order N s e k .firings ≡ total N (order N s e k .state)
@@ -99,7 +102,7 @@ pub record Demand3 (n : Netlist) (N : Net) : Type 0 where
   -- while parts wait some rule is ready, and a round fires at least one
   pub live : (xs : List Action) (m : ℕ) → Waits N m (stateAfter N xs) (pastAfter N xs) → SomeReady N (stateAfter N xs)
   pub fires : (xs : List Action) (m : ℕ) → Waits N m (stateAfter N xs) (pastAfter N xs) → 0 < roundFires N (stateAfter N xs)
-  -- firings since opening are the firing sum, to which rounds, runs and orders add what they count, in any state
+  -- firings since opening are the firing sum, to which calls add what they count, in any state
   pub sum : (xs : List Action) → pastAfter N xs .fired ≡ total N (stateAfter N xs)
   pub counts : (s : State) → Counts N s
   -- queues within their depths, values within their widths, cycles within the limit

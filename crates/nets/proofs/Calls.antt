@@ -15,11 +15,7 @@ use Rattle.nets.specs.Actions.{feed, drain, room, tests, ready}
 use Rattle.nets.specs.Rounds.{ruleCount, rule}
 use Rattle.nets.specs.Orders.{Entry, outputQueue, asked}
 use Rattle.nets.specs.Calls.{feedChecks, drainChecks, fireChecks, answerTo, someReady, AnswersRight}
-use Rattle.nets.proofs.Facts.{split-on}
-
-and-end : (b : Bool) → (b && true) ≡ b
-and-end true = refl
-and-end false = refl
+use Rattle.nets.proofs.Facts.{and-end, split-on}
 
 module _ (N : Net) (G : Good N) where
   -- an input goes from outside into a part, an output from a part to outside

@@ -16,6 +16,10 @@ use Rattle.nets.specs.State.{someToken}
 pub and-in : {a b : Bool} → a ≡ true → b ≡ true → (a && b) ≡ true
 and-in {a} {b} p q = rw p q
 
+pub and-end : (a : Bool) → (a && true) ≡ a
+and-end true = refl
+and-end false = refl
+
 pub not-in : {a : Bool} → a ≡ false → not a ≡ true
 not-in {a} p = rw p
 

@@ -39,7 +39,7 @@ use Rattle.nets.specs.Net.{Net, Seen}
 use Rattle.nets.specs.State.{State, own, someToken, valueIn, metIn, readIn, ownValue, thereIn, ownMet, present, needsMet}
 use Rattle.nets.specs.Networks.{placeIn, networkOf}
 use Rattle.nets.specs.Passed.{readBy, thereBy, viaA, viaB, viaC, calculated, valueBy, allThere, metBy}
-use Rattle.nets.proofs.Facts.{split-on}
+use Rattle.nets.proofs.Facts.{and-end, split-on}
 use Rattle.nets.proofs.Goods.{place-input, few-queues, good}
 use Rattle.nets.proofs.Only.{own-present, own-needs, next-present, next-needs, seen-present}
 use Rattle.nets.proofs.Sight.{sees}
@@ -62,10 +62,6 @@ member-third (suc (suc zero)) a b c h = let z : ⊥ = omega arith in absurd z
 member-third (suc (suc (suc n))) a b c h = rw (eq-eqb c c refl) (rw (or-true (eqb c b)) (or-true (eqb c a)))
 
 -- a test of each
-and-end : (x : Bool) → (x && true) ≡ x
-and-end true = refl
-and-end false = refl
-
 and-three : (x y z : Bool) → (x && (y && (z && true))) ≡ (x && y && z)
 and-three true y z = ap (λ b. y && b) (and-end z)
 and-three false y z = refl
