@@ -5,4 +5,5 @@ pub mod Live
 pub mod Round
 pub mod Sum
 pub mod Demands
+pub mod Bench
 pub mod One

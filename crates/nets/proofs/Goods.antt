@@ -25,7 +25,7 @@ use Rattle.cycles.specs.Netlists.{operator, kindOf}
 use Rattle.cycles.proofs.Accepted.{ordered}
 use Rattle.queues.specs.Lists.{listed, member}
 use Rattle.queues.specs.Queues.{Queue, outside, partOf, partsOf, inputAt, channelAt, outputAt, inputsOf, channelsAll, outputsOf, queuesOf, queueAt, inputPlace, channelPlace}
-use Rattle.queues.specs.Order.{OfInput, OfChannel, OfOutput}
+use Rattle.queues.specs.Order.{outputPlace, OfInput, OfChannel, OfOutput}
 use Rattle.queues.proofs.Listed.{ones-all, largest-le}
 use Rattle.queues.proofs.Order.{each-input, each-channel, each-output, each-queue, inputs-rise, channels-rise, operand-crosses}
 use Rattle.cut.specs.declared.Cut.{Cut}
@@ -34,6 +34,8 @@ use Rattle.cut.specs.Checks.{cutQueues, depthGood, cutChecks}
 use Rattle.cut.proofs.Answers.{both-good, few-parts}
 use Rattle.cut.proofs.Within.{cut-within}
 use Rattle.nets.specs.Net.{Good}
+use Rattle.nets.specs.Rounds.{ruleCount}
+use Rattle.nets.specs.Orders.{outputQueue}
 use Rattle.nets.specs.Networks.{queueOf, placeIn, networkOf}
 use Rattle.nets.proofs.Facts.{and-in}
 
@@ -247,3 +249,17 @@ module _ (n : Netlist) (c : Cut) (g : AllGood (netChecks n)) (h : AllGood (cutCh
         ends-fit = omega arith;
         deep = λ q l. depths q l .0;
       }
+
+-- ---- the network's numbers by the counts of its queues
+
+module _ (n : Netlist) (c : Cut) (limit : ℕ) where
+  pub queues-are : networkOf n c limit .queues ≡ length (inputsOf n (c .part)) + length (channelsAll n (c .part)) + n .outputs
+  queues-are = long n (c .part)
+
+  pub output-queue-is : (j : ℕ) → outputQueue (networkOf n c limit) j ≡ outputPlace n (c .part) j
+  output-queue-is j = let e = long n (c .part) in omega arith
+
+  -- a put rule for each channel and each output, a Finish for each part
+  pub rule-count-is : ruleCount (networkOf n c limit) ≡ length (channelsAll n (c .part)) + n .outputs + partsOf n (c .part)
+  unfolding ruleCount
+  rule-count-is = let e = long n (c .part) in omega arith

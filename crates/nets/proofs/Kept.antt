@@ -84,8 +84,8 @@ module _ (N : Net) where
   reaching =
       record {
         at-first = record { actions = []; is = refl };
-        on = reached-play;
-        step = λ s R a. subst (Reached N) (play-one N s a) (reached-play s R (a ∷ []));
+        more = reached-play;
+        one = λ s R a. subst (Reached N) (play-one N s a) (reached-play s R (a ∷ []));
         runs = λ s R k. subst (Reached N) (sym (run-plays N s k .0)) (reached-play s R (rounds N (run N s k .rounds)));
         orders = λ s R e k. subst (Reached N) (sym (order-plays N s e k)) (reached-play s R (listed k (λ j. asked N (e j))));
       }

@@ -17,5 +17,6 @@ pub mod Passed
 pub mod Kept
 pub mod OnePass
 pub mod InOrder
+pub mod Turns
 pub mod Bench
 pub mod One

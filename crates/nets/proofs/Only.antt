@@ -136,7 +136,8 @@ module _ (N : Net) (G : Good N) (s : State) where
   unfolding view
   view-other p a e = rw e
 
-  read-seen : (w : ℕ → ℕ) (p a : ℕ) → Seen N p a → (N .part a ≡ p → w a ≡ present N s p a) → readIn N s w p a ≡ present N s p a
+  -- what part p sees of node a: its own value where it is there, else its channel's token
+  pub read-seen : (w : ℕ → ℕ) (p a : ℕ) → Seen N p a → (N .part a ≡ p → w a ≡ present N s p a) → readIn N s w p a ≡ present N s p a
   read-seen w p a S h =
       split-on (λ b. eqb (N .part a) p ≡ b → cond b (w a) (getD (s .queue (N .via p a)) 0 0) ≡ present N s p a) (eqb (N .part a) p)
       (λ _ e. h (eqb-true (N .part a) p e))
@@ -165,7 +166,3 @@ module _ (N : Net) (G : Good N) (s : State) where
       ∙ same-met N G s p i (thereIn N s t p) (needsMet N s p) (view N p i) (view-sound N G p i (here i l))
       (λ a T r. there-seen t p a T (λ e. h a (T .is-node) r ∙ ap (λ x. needsMet N s x a) e))
       ∙ sym (needs-solve N G s p i (here i l))
-
-  -- what part p sees of node a: its own value there, or its channel's token
-  pub seen-present : (w : ℕ → ℕ) (p a : ℕ) → Seen N p a → w a ≡ present N s (N .part a) a → readIn N s w p a ≡ present N s p a
-  seen-present w p a S h = read-seen w p a S (λ e. h ∙ ap (λ x. present N s x a) e)

@@ -2,7 +2,7 @@
 -- queue that the finder's map names, and a code looks at no more fields than it uses.
 use mathlib.Core.Path.{_≡_, refl, sym, ap, ap₂, _∙_, subst}
 use mathlib.Core.Logic.{_≢_, by-cases}
-use mathlib.Core.Bool.{Bool, true, false, cond, not, _&&_, and-false, or-true}
+use mathlib.Core.Bool.{Bool, true, false, cond, not, _&&_, and-false, or-true, false≢true}
 use mathlib.Core.List.{[], _∷_, map, List·Memᴰ, List·Memᴰ·head}
 use Prim.Native.Nat.{ℕ, zero, suc, _<_}
 use native.Mathlib.Omega.{arith}
@@ -37,11 +37,12 @@ use Rattle.cut.specs.Checks.{cutChecks}
 use Rattle.nets.specs.Lists.{allOf, implies}
 use Rattle.nets.specs.Net.{Net, Seen}
 use Rattle.nets.specs.State.{State, own, someToken, valueIn, metIn, readIn, ownValue, thereIn, ownMet, present, needsMet}
+use Rattle.nets.specs.Actions.{nextOf}
 use Rattle.nets.specs.Networks.{placeIn, networkOf}
 use Rattle.nets.specs.Passed.{readBy, thereBy, viaA, viaB, viaC, calculated, valueBy, allThere, metBy}
 use Rattle.nets.proofs.Facts.{and-end, split-on}
 use Rattle.nets.proofs.Goods.{place-input, few-queues, good}
-use Rattle.nets.proofs.Only.{own-present, own-needs, next-present, next-needs, seen-present}
+use Rattle.nets.proofs.Only.{own-present, own-needs, next-present, next-needs, read-seen}
 use Rattle.nets.proofs.Sight.{sees}
 
 -- ---- the operands that are used
@@ -212,10 +213,22 @@ module _ (n : Netlist) (c : Cut) (g : AllGood (netChecks n)) (h : AllGood (cutCh
       → metBy n (c .part) s t i ≡ needsMet net s (partOf (c .part) i) i
   next-met s t i l e = met-is s i l t ∙ next-needs net (good n c g h limit) s t i l e
 
-  -- what a register takes at Finish: its operand's own value, or its channel's token
-  pub next-register : (s : State) (w : ℕ → ℕ) (i : ℕ) → i < n .nodes → registerAt n i ≡ true → w (recordOf n i .a) ≡ present net s (partOf (c .part) (recordOf n i .a)) (recordOf n i .a)
-      → readBy s w (viaA n (c .part) i) (recordOf n i .a) ≡ present net s (partOf (c .part) i) (recordOf n i .a)
+  -- what a register takes at Finish: its operand's own value where that is in its part, else its channel's token
+  pub next-register : (s : State) (w : ℕ → ℕ) (i : ℕ) → i < n .nodes → registerAt n i ≡ true
+      → (partOf (c .part) (recordOf n i .a) ≡ partOf (c .part) i → w (recordOf n i .a) ≡ present net s (partOf (c .part) i) (recordOf n i .a))
+      → readBy s w (viaA n (c .part) i) (recordOf n i .a) ≡ nextOf net s (partOf (c .part) i) i (kindOf n i)
   next-register s w i l e v =
       let u = one-operand (recordOf n i .code) (eqb-true (recordOf n i .code) 2 e) in
       read-is s w 0 i (recordOf n i .a) l (a-node s i l) u (member-first (countOf (recordOf n i .code)) (recordOf n i .a) (recordOf n i .b) (recordOf n i .c) u)
-      ∙ seen-present net (good n c g h limit) s w (partOf (c .part) i) (recordOf n i .a) (operand-seen i l e) v
+      ∙ read-seen net (good n c g h limit) s w (partOf (c .part) i) (recordOf n i .a) (operand-seen i l e) v
+      ∙ sym (ap (nextOf net s (partOf (c .part) i) i) (register-kind n i e))
+
+  -- what is no register keeps what it holds
+  pub next-other : (s : State) (p i : ℕ) → registerAt n i ≡ false → nextOf net s p i (kindOf n i) ≡ s .held i
+  next-other s p i e = other-on s p i (isIn (recordOf n i .code)) (isReg (recordOf n i .code)) e
+    where
+      other-on : (s : State) (p i : ℕ) (x y : Bool) → y ≡ false
+          → nextOf net s p i (cond x input (cond y (register (recordOf n i .k) (recordOf n i .a)) (oper (operator (recordOf n i) (widthOf n (recordOf n i .b))) (operandsIn (recordOf n i))))) ≡ s .held i
+      other-on s p i true y e = refl
+      other-on s p i false true e = absurd (false≢true (sym e))
+      other-on s p i false false e = refl

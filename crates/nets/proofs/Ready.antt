@@ -1,17 +1,18 @@
 -- What readiness of each action says, as a record of facts and back. The tests of an action are a list, and its kth entry is the kth fact.
-use mathlib.Core.Path.{_≡_, refl}
-use mathlib.Core.Bool.{Bool, true, false}
+use mathlib.Core.Path.{_≡_, refl, ap}
+use mathlib.Core.Bool.{Bool, true, false, not, _&&_}
 use mathlib.Core.List.{List, [], _∷_}
 use Prim.Native.Nat.{ℕ, zero, suc, _≤_, _<_}
 use lib.ListN.{length, getD}
 use lib.Dec.{eqb, ltb}
 use borrow.Author.Tests.{eqb-true, eq-eqb, ltb-true, ltb-false, lt-ltb, le-ltb}
+use Rattle.base.specs.Checks.{every}
 use Rattle.base.proofs.Tests.{and-left, and-right, every-true, every-at}
 use Rattle.nets.specs.Lists.{allHold, implies}
 use Rattle.nets.specs.Net.{Net}
 use Rattle.nets.specs.State.{State, someToken, needsMet}
 use Rattle.nets.specs.Actions.{feed, drain, put, finish, tests, ready, room, doneAt}
-use Rattle.nets.proofs.Facts.{and-in, not-in, not-out, implies-out, implies-in}
+use Rattle.nets.proofs.Facts.{and-in, and-end, not-in, not-out, implies-out, implies-in}
 
 pub record Feeds (N : Net) (s : State) (q x : ℕ) : Type 0 where
   pub inside : N .into q < N .parts
@@ -125,3 +126,16 @@ module _ (N : Net) (s : State) where
       (and-in (every-true (doneAt N s p) (N .queues)
       (λ q l. and-in (implies-in (eqb (N .from q) p) (s .flag q) (λ h. F .on q l (eqb-true (N .from q) p h)))
       (implies-in (eqb (N .into q) p) (someToken (s .queue q)) (λ h. F .full q l (eqb-true (N .into q) p h))))) refl))
+
+  -- ---- and as one test, where the part is there
+
+  pub put-ready-is : (q : ℕ) → N .from q < N .parts
+      → ready N s (put q) ≡ (ltb (s .count (N .from q)) (N .limit) && (not (s .flag q) && (room N s q && needsMet N s (N .from q) (N .node q))))
+  unfolding ready tests
+  put-ready-is q l =
+      rw (lt-ltb (N .from q) (N .parts) l)
+      (ap (λ b. ltb (s .count (N .from q)) (N .limit) && (not (s .flag q) && (room N s q && b))) (and-end (needsMet N s (N .from q) (N .node q))))
+
+  pub finish-ready-is : (p : ℕ) → p < N .parts → ready N s (finish p) ≡ (ltb (s .count p) (N .limit) && every (doneAt N s p) (N .queues))
+  unfolding ready tests
+  finish-ready-is p l = rw (lt-ltb p (N .parts) l) (ap (λ b. ltb (s .count p) (N .limit) && b) (and-end (every (doneAt N s p) (N .queues))))

@@ -26,11 +26,12 @@ pub record Reached (N : Net) (s : State) : Type 0 where
 -- Calls go from such a state to such a state.
 pub record Reaching (N : Net) : Type 0 where
   pub at-first : Reached N (fresh N)
-  pub on : (s : State) → Reached N s → (xs : List Action) → Reached N (play N s xs)
-  pub step : (s : State) → Reached N s → (a : Action) → Reached N (step N s a)
+  pub more : (s : State) → Reached N s → (xs : List Action) → Reached N (play N s xs)
+  pub one : (s : State) → Reached N s → (a : Action) → Reached N (step N s a)
   pub runs : (s : State) → Reached N s → (k : ℕ) → Reached N (run N s k .state)
   pub orders : (s : State) → Reached N s → (e : ℕ → Entry) (k : ℕ) → Reached N (order N s e k .state)
 
+-- what a state keeps to
 pub record Kept (n : Netlist) (N : Net) (s : State) : Type 0 where
   -- no queue holds more than its depth, and what is no queue holds nothing and has its flag off
   pub fits : (q : ℕ) → length (s .queue q) ≤ N .depth q
