@@ -1,5 +1,5 @@
--- A part's nodes, evaluated in one pass: each node's value and whether its needs are met, from what was found before it. What this means for a network
--- is stated in the crates above.
+-- A part's nodes, evaluated in one pass: each node's value and whether its needs are met, from what was found before it. What
+-- this means for a network is not said here.
 use mathlib.Core.Bool.{Bool, true, false, cond, _&&_}
 use mathlib.Core.List.{List}
 use Prim.Native.Nat.{ℕ, zero, suc, _+_, _*_, _%_}

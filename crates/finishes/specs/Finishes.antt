@@ -1,5 +1,5 @@
--- Finish rules on the arrays, those of the parts from lo up to hi at once: which of them are ready, and what they change. What this means for a network,
--- and that it is each Finish in its turn, is stated in the crates above.
+-- Finish rules on the arrays, those of the parts from lo up to hi at once: which of them are ready, and what they change. What this means for a network
+-- is not said here.
 use mathlib.Core.Bool.{Bool, true, false, cond, not, _&&_}
 use mathlib.Core.List.{List}
 use Prim.Native.Nat.{ℕ, zero, suc, _+_, _-_, _%_, _^_, min}

@@ -1,5 +1,5 @@
 -- Put rules tried one after the other on the arrays: before each, the nodes up to its own are evaluated, each once. What this means for a network is
--- stated in the crates above.
+-- not said here.
 use mathlib.Core.Bool.{Bool, true, false, cond, not, _&&_}
 use mathlib.Core.List.{List}
 use Prim.Native.Nat.{ℕ, zero, suc, _+_, _-_, _*_, _%_, min, max}

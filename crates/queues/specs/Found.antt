@@ -54,7 +54,7 @@ noQueues =
 abbrev pub partsFit : Netlist → List ℕ → Bool
 partsFit n part = leb (n .nodes) 1024 && leb (n .outputs) 64 && every (λ i. leb (partOf part i) 31) (n .nodes)
 
--- the queues and their maps, where the parts fit; else zeros
+-- the queues and their maps
 unfoldable pub found : Netlist → List ℕ → Queues
 found n part =
     record {
@@ -72,5 +72,6 @@ found n part =
       c = fill (λ i. viaOf n part 2 i (recordOf n i .c)) (n .nodes) (replicate 1024 0);
     }
 
+-- the same where the parts fit, else zeros
 unfoldable pub queuesFound : Netlist → List ℕ → Queues
 queuesFound n part = cond (partsFit n part) (found n part) noQueues
