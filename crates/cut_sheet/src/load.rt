@@ -5,19 +5,12 @@ ghost use lib.ListN.{length, getD};
 ghost use Rattle.base.specs.Lists.{fill};
 ghost use Rattle.cut_sheet.specs.Reading.{cutFrom};
 
-// The smaller of the two.
-fn least(x: usize, y: usize) -> usize
-    ensures { λ r. ⌜ r ≡ min x y ⌝ }
-{
-    if x <= y { x } else { y }
-}
-
 // The n bytes from byte `from` on; of more than the list holds, as many as it holds.
 fn load_bytes(sheet: &[u8], from: usize, n: usize, into: &mut [u8])
     requires { ⌜ from + n ≤ length (now sheet) ⌝ }
     ensures { λ _. ⌜ now (into .exit) ≡ fill (λ j. getD (now (sheet .entry)) (from + j) 0) n (now (into .entry)) ⌝ }
 {
-    let most = least(n, into.len());
+    let most = base::least(n, into.len());
     let mut j = 0;
     while j < most {
         into[j] = sheet[from + j];

@@ -25,23 +25,16 @@ pub fn count_ins(code: &[u8; 1024], n: usize) -> usize
     j
 }
 
-// Whether a value is below 2^w.
-fn below(x: u32, w: u8) -> bool
-    ensures { λ r. ⌜ r ≡ fitsIn w x ⌝ }
-{
-    if w < 32 {
-        (x as u64) < (1u64 << w)
-    } else {
-        true
-    }
-}
-
 // Whether the value at place j fits a node, where it is an IN.
 fn fits_at(code: u8, w: u8, ins: &[u32], j: usize) -> bool
     requires { ⌜ (code ≡ 0 → j < length (now ins)) ⌝ }
     ensures { λ r. ⌜ r ≡ fitsNode code w (getD (now (ins .entry)) j 0) ⌝ }
 {
-    if code == 0x00 { below(ins[j], w) } else { true }
+    if code == 0x00 {
+        base::below(ins[j], w)
+    } else {
+        true
+    }
 }
 
 // Whether the values from `at` on, one for each IN of the first n nodes, fit.

@@ -10,13 +10,6 @@ ghost use Rattle.cycles.specs.Inputs.{insIn, allFitIn};
 ghost use Rattle.codes.specs.Rows.{isReg};
 ghost use Rattle.cycles.specs.Steps.{netIn, Registers, Cycles, registersAfter, outputsAfter, StepsPromise};
 
-// The smaller of the two.
-fn least(x: usize, y: usize) -> usize
-    ensures { λ r. ⌜ r ≡ min x y ⌝ }
-{
-    if x <= y { x } else { y }
-}
-
 // Whether the inputs of every one of so many cycles fit.
 fn all_fit<'x>(
     code: &'x [u8; 1024],
@@ -166,7 +159,7 @@ pub fn first_registers_in<'x>(
 )
     ensures { λ _. ⌜ now (regs .exit) ≡ fill (λ i. cond (isReg (getD (now (code .entry)) i 0)) (getD (now (k .entry)) i 0) 0) nodes (replicate 1024 0) ⌝ }
 {
-    let n = least(nodes, 1024);
+    let n = base::least(nodes, 1024);
     *regs = [0; 1024];
     let mut i = 0;
     while i < n {

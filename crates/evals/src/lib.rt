@@ -11,13 +11,6 @@ fn spot_of(x: u16) -> usize
     (x % 2048) as usize
 }
 
-// The smaller of the two.
-fn least(x: usize, y: usize) -> usize
-    ensures { λ r. ⌜ r ≡ min x y ⌝ }
-{
-    if x <= y { x } else { y }
-}
-
 // The value of node i, from what was found before it.
 fn value_now<'x>(
     code: &'x [u8; 1024],
@@ -89,7 +82,7 @@ pub fn evaluate<'x>(
 )
     ensures { λ _. ⌜ (now (vals .exit) ≡ valsAfter (mk (now (code .entry)) (now (width .entry)) (now (join .entry)) (now (k .entry)) (now (ra .entry)) (now (rb .entry)) (now (rc .entry))) (now (held .entry)) lo (min hi 1024 - lo) (now (vals .entry))) × (now (mets .exit) ≡ metsAfter (mk (now (code .entry)) (now (width .entry)) (now (join .entry)) (now (k .entry)) (now (ra .entry)) (now (rb .entry)) (now (rc .entry))) lo (min hi 1024 - lo) (now (mets .entry))) ⌝ }
 {
-    let end = least(hi, 1024);
+    let end = base::least(hi, 1024);
     let mut i = lo;
     while i < end {
         let x = value_now(code, width, join, k, ra, rb, rc, held, vals, i);
@@ -110,7 +103,7 @@ pub fn load_tokens<'x>(
 )
     ensures { λ _. ⌜ (now (vals .exit) ≡ tokensIn (now (cells .entry)) (min n 512) (now (vals .entry))) × (now (mets .exit) ≡ tokensThere (now (used .entry)) (min n 512) (now (mets .entry))) ⌝ }
 {
-    let end = least(n, 512);
+    let end = base::least(n, 512);
     let mut q = 0;
     while q < end {
         vals[1024 + q] = cells[q * 16];

@@ -22,17 +22,11 @@ fn spot_of(x: u16) -> usize
     (x % 2048) as usize
 }
 
-fn least(x: usize, y: usize) -> usize
-    ensures { λ r. ⌜ r ≡ min x y ⌝ }
-{
-    if x <= y { x } else { y }
-}
-
 // Marks the parts from lo up to hi that are below the limit.
 fn mark_below(count: &[u32; 32], limit: u32, lo: usize, hi: usize, fin: &mut [bool; 64])
     ensures { λ _. ⌜ now (fin .exit) ≡ below (now (count .entry)) limit lo (min hi 32 - lo) (now (fin .entry)) ⌝ }
 {
-    let end = least(hi, 32);
+    let end = base::least(hi, 32);
     let mut p = lo;
     while p < end {
         fin[p] = count[p] < limit;
@@ -51,7 +45,7 @@ fn hold_back<'x>(
 )
     ensures { λ _. ⌜ now (fin .exit) ≡ cleared (now (from .entry)) (now (into .entry)) (now (flag .entry)) (now (used .entry)) (min n 512) (now (fin .entry)) ⌝ }
 {
-    let end = least(n, 512);
+    let end = base::least(n, 512);
     let mut q = 0;
     while q < end {
         let puts = part_of(from[q]);
@@ -81,7 +75,7 @@ fn change_held<'x>(
 )
     ensures { λ _. ⌜ now (held .exit) ≡ fill (nextHeld (now (code .entry)) (now (ra .entry)) (now (part .entry)) (now (vals .entry)) (now (fin .entry)) (now (held .entry))) (min n 1024) (now (held .entry)) ⌝ }
 {
-    let end = least(n, 1024);
+    let end = base::least(n, 1024);
     let mut i = 0;
     while i < end {
         let p = part_of(part[i]);
@@ -113,7 +107,7 @@ fn take_all<'x>(
 )
     ensures { λ _. ⌜ (now (cells .exit) ≡ cellsAfter (now (into .entry)) (now (fin .entry)) (min n 512) (now (used .entry)) (now (cells .entry))) × (now (used .exit) ≡ usedAfter (now (into .entry)) (now (fin .entry)) (min n 512) (now (used .entry))) × (now (flag .exit) ≡ flagsAfter (now (from .entry)) (now (fin .entry)) (min n 512) (now (flag .entry))) ⌝ }
 {
-    let end = least(n, 512);
+    let end = base::least(n, 512);
     let mut q = 0;
     while q < end {
         let puts = part_of(from[q]);
@@ -145,7 +139,7 @@ fn one_if(marked: bool) -> usize
 fn count_cycles(n: usize, fin: &[bool; 64], count: &mut [u32; 32]) -> usize
     ensures { λ r. ⌜ (r ≡ finished (now (fin .entry)) (min n 32)) × (now (count .exit) ≡ fill (nextCount (now (fin .entry)) (now (count .entry))) (min n 32) (now (count .entry))) ⌝ }
 {
-    let end = least(n, 32);
+    let end = base::least(n, 32);
     let mut fired = 0;
     let mut p = 0;
     while p < end {
@@ -154,6 +148,40 @@ fn count_cycles(n: usize, fin: &[bool; 64], count: &mut [u32; 32]) -> usize
         p += 1;
     }
     fired
+}
+
+// How many of the first n parts are marked.
+fn count_marked(n: usize, fin: &[bool; 64]) -> usize
+    ensures { λ r. ⌜ r ≡ finished (now (fin .entry)) (min n 32) ⌝ }
+{
+    let end = base::least(n, 32);
+    let mut fired = 0;
+    let mut p = 0;
+    while p < end {
+        fired += one_if(fin[p]);
+        p += 1;
+    }
+    fired
+}
+
+// How many Finishes of the parts from lo up to hi are ready.
+pub fn finish_asked<'x>(
+    from: &'x [u8; 512],
+    into: &'x [u8; 512],
+    queues: usize,
+    limit: u32,
+    lo: usize,
+    hi: usize,
+    used: &[u8; 512],
+    flag: &[bool; 512],
+    count: &[u32; 32],
+) -> usize
+    ensures { λ r. ⌜ r ≡ finished (finishing (now (from .entry)) (now (into .entry)) (now (flag .entry)) (now (used .entry)) (now (count .entry)) limit queues lo hi) (min hi 32) ⌝ }
+{
+    let mut fin = [false; 64];
+    mark_below(count, limit, lo, hi, &mut fin);
+    hold_back(from, into, flag, used, queues, &mut fin);
+    count_marked(hi, &fin)
 }
 
 // Fires the Finish of each part from lo up to hi that is ready, by what was found for the nodes; how many there are.

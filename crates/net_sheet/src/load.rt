@@ -74,13 +74,6 @@ fn load_labels(sheet: &[u8], from: usize, n: usize, label: &mut [u8; 4096])
     }
 }
 
-// The smaller of the two.
-fn least(x: usize, y: usize) -> usize
-    ensures { λ r. ⌜ r ≡ min x y ⌝ }
-{
-    if x <= y { x } else { y }
-}
-
 // The netlist of a sheet whose sections have so many bytes; of a count past an array's length, as much as the array holds.
 pub fn net_from(sheet: &[u8], front: usize, middle: usize, labels: usize) -> netlist::Netlist
     requires { ⌜ front + (middle + labels) ≤ length (now sheet) ⌝ }
@@ -98,7 +91,7 @@ pub fn net_from(sheet: &[u8], front: usize, middle: usize, labels: usize) -> net
     let mut label = [0u8; 4096];
     load_nodes(
         sheet,
-        least(nodes, 1024),
+        base::least(nodes, 1024),
         &mut code,
         &mut width,
         &mut a,
@@ -106,8 +99,8 @@ pub fn net_from(sheet: &[u8], front: usize, middle: usize, labels: usize) -> net
         &mut c,
         &mut k,
     );
-    load_outputs(sheet, front, least(outputs, 64), &mut output);
-    load_labels(sheet, front + middle, least(labels, 4096), &mut label);
+    load_outputs(sheet, front, base::least(outputs, 64), &mut output);
+    load_labels(sheet, front + middle, base::least(labels, 4096), &mut label);
     netlist::Netlist {
         nodes,
         code,

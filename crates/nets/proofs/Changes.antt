@@ -54,7 +54,7 @@ module _ {A : Type 0} (t : ℕ → Bool) (g f : ℕ → A) where
       (λ ne. turn-same k j ne)
 
   -- after the last: every place where the test holds was reached
-  all-at : (k : ℕ) → ((j : ℕ) → t j ≡ true → j < k) → (j : ℕ) → changed t g f k j ≡ cond (t j) (g j) (f j)
+  pub all-at : (k : ℕ) → ((j : ℕ) → t j ≡ true → j < k) → (j : ℕ) → changed t g f k j ≡ cond (t j) (g j) (f j)
   unfolding changed
   all-at k h j =
       split-on (λ b. t j ≡ b → cond (ltb j k && b) (g j) (f j) ≡ cond b (g j) (f j)) (t j)
@@ -76,11 +76,11 @@ module _ {A : Type 0} (t : ℕ → Bool) (g f : ℕ → A) where
 
 -- ---- queues that are taken from, in the one list and in the list of their lengths
 
-cells-same : (n : ℕ) (f g : ℕ → List ℕ) → ((q : ℕ) → f q ≡ g q) → tab n (cell f) ≡ tab n (cell g)
+pub cells-same : (n : ℕ) (f g : ℕ → List ℕ) → ((q : ℕ) → f q ≡ g q) → tab n (cell f) ≡ tab n (cell g)
 unfolding cell
 cells-same n f g h = tab-same n (cell f) (cell g) (λ j _. ap (λ x. getD x (j % 16) 0) (h (j / 16)))
 
-lengths-same : (n : ℕ) (f g : ℕ → List ℕ) → ((q : ℕ) → f q ≡ g q) → tab n (λ q. length (f q)) ≡ tab n (λ q. length (g q))
+pub lengths-same : (n : ℕ) (f g : ℕ → List ℕ) → ((q : ℕ) → f q ≡ g q) → tab n (λ q. length (f q)) ≡ tab n (λ q. length (g q))
 lengths-same n f g h = tab-same n (λ q. length (f q)) (λ q. length (g q)) (λ q _. ap length (h q))
 
 module _ (t : ℕ → Bool) (f : ℕ → List ℕ) where

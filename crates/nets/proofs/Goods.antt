@@ -137,6 +137,16 @@ module _ (n : Netlist) (c : Cut) (g : AllGood (netChecks n)) (h : AllGood (cutCh
   output-node : (j : ℕ) → j < n .outputs → outputOf n j < n .nodes
   output-node j l = ltb-true (outputOf n j) (n .nodes) (lowest-good (λ j. ltb (outputOf n j) (n .nodes)) (n .outputs) (g .1 .1 .0) j l)
 
+  -- an end is a part or the outside
+  pub ends-few : (q : ℕ) → (queueOf n (c .part) q .from ≤ outside) × (queueOf n (c .part) q .into ≤ outside)
+  ends-few q =
+      by-cases (decLt q (length (cutQueues n c)))
+      (λ u. by-queue n (c .part) (λ x. (x .from ≤ outside) × (x .into ≤ outside)) q u
+      (λ o. (omega arith, let a = in-part (o .node) (o .within) in let f = few in omega arith))
+      (λ o. (let a = in-part (o .node) (o .within) in let f = few in omega arith, let a = o .known in let f = few in omega arith))
+      (λ o. (let a = in-part (outputOf n (o .output)) (output-node (o .output) (o .within)) in let f = few in omega arith, omega arith)))
+      (λ u. (let e = past-from n (c .part) q (omega arith) in omega arith, let e = past-into n (c .part) q (omega arith) in omega arith))
+
   -- a part at one end, so it is a queue
   pub from-queue : (q : ℕ) → queueOf n (c .part) q .from < partsOf n (c .part) → q < length (cutQueues n c)
   from-queue q l =

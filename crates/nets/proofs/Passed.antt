@@ -75,7 +75,7 @@ all-three f (suc (suc (suc n))) a b c =
     rw (lt-ltb 0 (suc (suc (suc n))) (omega arith), lt-ltb 1 (suc (suc (suc n))) (omega arith), lt-ltb 2 (suc (suc (suc n))) (omega arith), take-nil {A = ℕ} n) (and-three (f a) (f b) (f c))
 
 -- a REG has one
-one-operand : (code : ℕ) → code ≡ 2 → 0 < countOf code
+pub one-operand : (code : ℕ) → code ≡ 2 → 0 < countOf code
 unfolding rows place
 one-operand code e = rw e (lit< tt)
 
@@ -126,7 +126,7 @@ module _ (n : Netlist) (c : Cut) (g : AllGood (netChecks n)) (h : AllGood (cutCh
       ∙ sym (ap (λ b. cond b (t x) (someToken (s .queue (net .via (partOf (c .part) i) x)))) (ne-eqb (partOf (c .part) x) (partOf (c .part) i) ne)))
 
   -- a register's operand is seen in its part
-  operand-seen : (i : ℕ) → i < n .nodes → registerAt n i ≡ true → Seen net (partOf (c .part) i) (recordOf n i .a)
+  pub operand-seen : (i : ℕ) → i < n .nodes → registerAt n i ≡ true → Seen net (partOf (c .part) i) (recordOf n i .a)
   operand-seen i l e =
       let k : kindOf n i ≡ register (recordOf n i .k) (recordOf n i .a) = register-kind n i e in
       sees net (good n c g h limit) i (recordOf n i .a) l (subst (λ x. List·Memᴰ (recordOf n i .a) (operands x)) (sym k) (List·Memᴰ·head refl))

@@ -8,10 +8,11 @@ use Rattle.base.proofs.Fill.{fill-clipped}
 use Rattle.netlist.specs.declared.Netlist.{Netlist}
 use Rattle.queues.specs.declared.Queues.{Queues}
 use Rattle.cut.specs.declared.Cut.{Cut}
-use Rattle.plans.specs.Plans.{spotOf, firstSpot, joinOf, planOf}
+use Rattle.plans.specs.Plans.{spotOf, firstSpot, joinOf, rulesIn, planOf}
 
-pub made : (n : Netlist) (c : Cut) (q : Queues) (limit m : ℕ) (join ra rb rc : List ℕ)
+pub made : (n : Netlist) (c : Cut) (q : Queues) (limit m rules : ℕ) (join ra rb rc : List ℕ)
     → m ≡ min (n .nodes) 1024
+    → rules ≡ rulesIn (q .count) (q .inputs) (q .parts)
     → join ≡ fill (joinOf (n .width) (n .b)) m (replicate 1024 0)
     → ra ≡ fill (firstSpot (n .code) (n .a) (q .a) (q .input)) m (replicate 1024 0)
     → rb ≡ fill (spotOf (n .code) (n .b) (q .b) 1) m (replicate 1024 0)
@@ -24,6 +25,7 @@ pub made : (n : Netlist) (c : Cut) (q : Queues) (limit m : ℕ) (join ra rb rc :
       channels = q .channels;
       outputs = q .outputs;
       queues = q .count;
+      rules = rules;
       code = n .code;
       width = n .width;
       join = join;
@@ -38,9 +40,10 @@ pub made : (n : Netlist) (c : Cut) (q : Queues) (limit m : ℕ) (join ra rb rc :
       depth = c .depth;
     } ≡ planOf n c q limit
 unfolding planOf
-made n c q limit m join ra rb rc h hj ha hb hc =
+made n c q limit m rules join ra rb rc h hr hj ha hb hc =
     let z : List ℕ = replicate 1024 0 in
     rw (
+      hr,
       fill-clipped (joinOf (n .width) (n .b)) (n .nodes) 1024 m z join hj h (length-replicate {A = ℕ} 1024 0),
       fill-clipped (firstSpot (n .code) (n .a) (q .a) (q .input)) (n .nodes) 1024 m z ra ha h (length-replicate {A = ℕ} 1024 0),
       fill-clipped (spotOf (n .code) (n .b) (q .b) 1) (n .nodes) 1024 m z rb hb h (length-replicate {A = ℕ} 1024 0),

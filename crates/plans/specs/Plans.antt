@@ -1,7 +1,7 @@
--- What opening works out once: for each node where its operands are read, and for each queue its ends and its depth.
+-- What opening works out once: for each node where its operands are read, for each queue its ends and its depth, and how many rules there are.
 use mathlib.Core.Bool.{Bool, cond}
 use mathlib.Core.List.{List}
-use Prim.Native.Nat.{ℕ, _+_, _%_}
+use Prim.Native.Nat.{ℕ, _+_, _-_, _%_, min}
 use lib.Dec.{ltb}
 use lib.ListN.{getD, replicate}
 use Rattle.base.specs.Lists.{fill}
@@ -34,6 +34,10 @@ firstSpot code xs vias input i = cond (isIn (getD code i 0)) (tokenAt (getD inpu
 abbrev pub joinOf : List ℕ → List ℕ → ℕ → ℕ
 joinOf width b i = getD width (getD b i 0 % 1024) 0
 
+-- How many rules there are: a put rule for each queue that is no input's, and a Finish for each part. There are at most 512 queues and 32 parts.
+abbrev pub rulesIn : ℕ → ℕ → ℕ → ℕ
+rulesIn queues inputs parts = min queues 512 - min inputs 512 + min parts 32
+
 unfoldable pub planOf : Netlist → Cut → Queues → ℕ → Plan
 planOf n c q limit =
     record {
@@ -44,6 +48,7 @@ planOf n c q limit =
       channels = q .channels;
       outputs = q .outputs;
       queues = q .count;
+      rules = rulesIn (q .count) (q .inputs) (q .parts);
       code = n .code;
       width = n .width;
       join = fill (joinOf (n .width) (n .b)) (n .nodes) (replicate 1024 0);

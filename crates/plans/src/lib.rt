@@ -5,9 +5,10 @@ ghost use Prim.Native.Nat.{ℕ, _%_, _<_, _≤_, min};
 ghost use lib.ListN.{getD};
 ghost use Rattle.base.specs.Lists.{fill};
 ghost use Rattle.codes.specs.Rows.{isIn};
-ghost use Rattle.plans.specs.Plans.{tokenAt, readAt, spotOf, firstSpot, joinOf, planOf};
+ghost use Rattle.plans.specs.Plans.{tokenAt, readAt, spotOf, firstSpot, joinOf, rulesIn, planOf};
 
-// The nodes' fields with where each operand is read (a node, 1,024 and its queue, or 1,536 for none), and the queues' nodes, ends and depths.
+// How many there are of each; the nodes' fields with where each operand is read (a node, 1,024 and its queue, or 1,536 for none); the queues' nodes, ends and
+// depths.
 pub struct Plan {
     pub limit: u32,
     pub nodes: usize,
@@ -16,6 +17,7 @@ pub struct Plan {
     pub channels: usize,
     pub outputs: usize,
     pub queues: usize,
+    pub rules: usize,
     pub code: [u8; 1024],
     pub width: [u8; 1024],
     pub join: [u8; 1024],
@@ -66,10 +68,18 @@ fn inside_of(x: u16) -> usize
     (x % 1024) as usize
 }
 
-fn least(x: usize, y: usize) -> usize
-    ensures { λ r. ⌜ r ≡ min x y ⌝ }
+// How many rules there are: a put rule for each channel and each output, and a Finish for each part.
+fn count_rules(queues: usize, inputs: usize, parts: usize) -> usize
+    ensures { λ r. ⌜ r ≡ rulesIn queues inputs parts ⌝ }
 {
-    if x <= y { x } else { y }
+    let all = base::least(queues, 512);
+    let fed = base::least(inputs, 512);
+    let finishes = base::least(parts, 32);
+    if fed <= all {
+        all - fed + finishes
+    } else {
+        finishes
+    }
 }
 
 // The first field of the first n nodes.
@@ -129,7 +139,7 @@ fn fill_join<'x>(width: &'x [u8; 1024], b: &'x [u16; 1024], n: usize, join: &mut
 pub fn make_plan(net: netlist::Netlist, cut: cut::Cut, queues: queues::Queues, limit: u32) -> Plan
     ensures { λ r. ⌜ r ≡ planOf net cut queues limit ⌝ }
 {
-    let n = least(net.nodes, 1024);
+    let n = base::least(net.nodes, 1024);
     let mut join = [0u8; 1024];
     let mut ra = [0u16; 1024];
     let mut rb = [0u16; 1024];
@@ -154,6 +164,7 @@ pub fn make_plan(net: netlist::Netlist, cut: cut::Cut, queues: queues::Queues, l
         channels: queues.channels,
         outputs: queues.outputs,
         queues: queues.count,
+        rules: count_rules(queues.count, queues.inputs, queues.parts),
         code,
         width,
         join,

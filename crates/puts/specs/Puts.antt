@@ -1,5 +1,6 @@
 -- Put rules tried one after the other on the arrays: before each, the nodes up to its own are evaluated, each once. What this means for a network is
 -- not said here.
+use mathlib.Core.Path.{_≡_}
 use mathlib.Core.Bool.{Bool, true, false, cond, not, _&&_}
 use mathlib.Core.List.{List}
 use Prim.Native.Nat.{ℕ, zero, suc, _+_, _-_, _*_, _%_, min, max}
@@ -49,13 +50,15 @@ evaluated P n S =
     }
 
 -- A put rule is ready: its flag is off, its queue has room, its node's needs are met, and its part is below the limit.
+abbrev pub putTest : List ℕ → List ℕ → List ℕ → List ℕ → ℕ → ℕ → List ℕ → List Bool → List Bool → Bool
+putTest node from depth count limit q used flag mets =
+    not (getD flag q false)
+    && ltb (getD used q 0) (getD depth q 0)
+    && getD mets (getD node q 0 % 1024) false
+    && ltb (getD count (getD from q 0 % 32) 0) limit
+
 abbrev pub putReady : Plan → ℕ → Pass → Bool
-putReady P q S =
-    ltb q 512
-    && not (getD (S .flag) q false)
-    && ltb (getD (S .used) q 0) (getD (P .depth) q 0)
-    && getD (S .mets) (getD (P .node) q 0 % 1024) false
-    && ltb (getD (P .count) (getD (P .from) q 0 % 32) 0) (P .limit)
+putReady P q S = ltb q 512 && putTest (P .node) (P .from) (P .depth) (P .count) (P .limit) q (S .used) (S .flag) (S .mets)
 
 -- It puts the node's value and sets the flag; what is read from the queue is its oldest token again.
 unfoldable pub putDone : Plan → ℕ → Pass → Pass
@@ -75,6 +78,13 @@ putTried P q S = cond (putReady P q S) (putDone P q S) S
 
 abbrev pub putTurn : Plan → ℕ → Pass → Pass
 putTurn P q S = putTried P q (evaluated P (needed P q) S)
+
+-- Whether a rule would fire, asked of a pass that has found nothing of the nodes: the answer, and what is found then. Past the queues nothing is.
+abbrev pub Asked : Plan → ℕ → Pass → Bool → List ℕ → List Bool → Type 0
+Asked P q S r vals mets =
+    (r ≡ putReady P q (evaluated P (needed P q) S))
+    × (vals ≡ cond (ltb q 512) (evaluated P (needed P q) S .vals) (S .vals))
+    × (mets ≡ cond (ltb q 512) (evaluated P (needed P q) S .mets) (S .mets))
 
 -- the rules of d queues from lo on
 unfoldable pub putsAfter : Plan → ℕ → ℕ → Pass → Pass

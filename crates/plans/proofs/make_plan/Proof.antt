@@ -19,10 +19,13 @@ fill-spots-requires c κs = search needs
 fill-spots-requires-2 : tie.Need-fill-spots-requires-2
 fill-spots-requires-2 c κs = search needs
 
+count-rules-requires : tie.Need-count-rules-requires
+count-rules-requires c κs = search needs
+
 returns : tie.Need-returns
 returns c =
-    let a = c .before .before .before .before .before .before .before .before .before .before .before .before .before .before .before .before .before .before .before .before .before .before .before .before .before .before .before .before .before .before .before .before .before .before .before .before .args in
-    made (a .t1) (a .cut) (a .t3) (a .limit) _ _ _ _ _ (c .before .before .before .before .before .before .before .before .before .before .before .before .before .before .before .before .before .before .before .before .before .before .before .before .before .before .before .before .before .before .before .before .before .before .before .least .ensures) (c .before .before .before .before .before .before .before .before .before .before .before .before .before .before .before .before .before .before .before .before .before .before .before .before .before .before .before .before .before .before .fill-join .ensures) (c .before .before .before .before .before .before .before .before .before .before .before .before .before .before .before .before .before .before .before .before .before .before .fill-first .ensures) (c .before .before .before .before .before .before .before .before .before .before .before .before .before .before .before .fill-spots .ensures) (c .before .before .before .before .before .before .before .before .fill-spots2 .ensures)
+    let a = c .before .before .before .before .before .before .before .before .before .before .before .before .before .before .before .before .before .before .before .before .before .before .before .before .before .before .before .before .before .before .before .before .before .before .before .before .before .args in
+    made (a .t1) (a .cut) (a .t3) (a .limit) _ _ _ _ _ _ (c .before .before .before .before .before .before .before .before .before .before .before .before .before .before .before .before .before .before .before .before .before .before .before .before .before .before .before .before .before .before .before .before .before .before .before .before .least .ensures) (c .count-rules .ensures) (c .before .before .before .before .before .before .before .before .before .before .before .before .before .before .before .before .before .before .before .before .before .before .before .before .before .before .before .before .before .before .before .fill-join .ensures) (c .before .before .before .before .before .before .before .before .before .before .before .before .before .before .before .before .before .before .before .before .before .before .before .fill-first .ensures) (c .before .before .before .before .before .before .before .before .before .before .before .before .before .before .before .before .fill-spots .ensures) (c .before .before .before .before .before .before .before .before .before .fill-spots2 .ensures)
 
 pub make-plan-spec : {M : Type 1} → statement M
 make-plan-spec =
@@ -33,4 +36,5 @@ make-plan-spec =
     fill-first-requires
     fill-spots-requires
     fill-spots-requires-2
+    count-rules-requires
     returns)

@@ -1,13 +1,13 @@
--- `cycles::inputs::below` meets its contract. From 32 bits on every number fits.
+-- `base::below` meets its contract. From 32 bits on every number fits.
 use mathlib.Core.Path.{sym}
 use Prim.Native.Nat.{_^_}
 use native.Mathlib.Omega.{arith}
 use borrow.Author.Tests.{lt-ltb}
 use borrow.Author.Needs.{needs}
 use lib.Pow.{pow-mono}
 use Rattle.base.proofs.Widths.{one-shl}
-use Rattle.cycles.proofs.inputs.below.Statement.{statement}
-use Rattle.cycles.proofs.inputs.below.Tie as tie
+use Rattle.base.proofs.below.Statement.{statement}
+use Rattle.base.proofs.below.Tie as tie
 
 shl-result : tie.Need-shl-result
 shl-result c = search needs

@@ -1,0 +1,3 @@
+pub mod Fires
+pub mod Runs
+pub mod Meaning

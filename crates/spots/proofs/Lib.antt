@@ -1,0 +1,13 @@
+pub mod Spots
+pub mod Views
+pub mod Passing
+pub mod Putting
+pub mod Phases
+pub mod Finishing
+pub mod Marking
+pub mod Takings
+pub mod Counting
+pub mod Loading
+pub mod Rounding
+pub mod OnArrays
+pub mod One
