@@ -25,7 +25,7 @@ OneOutcome n ps k P left =
     → (r ≡ r′) × (left κs x ≡ left κs x′)
 
 -- the same of a function that takes a struct by reference: T is its signature, and P is what its `ensures` is shown to say
-abbrev pub OneLeft : (T : Ended) → ((κs : Lfts (T .signature .lifetimes)) → Args (T .signature) κs → Res (T .signature) κs → AtExit T κs → Type 0) → ((κs : Lfts (T .signature .lifetimes)) → AtExit T κs → List ℕ) → Type 0
+abbrev pub OneLeft : {A : Type 0} (T : Ended) → ((κs : Lfts (T .signature .lifetimes)) → Args (T .signature) κs → Res (T .signature) κs → AtExit T κs → Type 0) → ((κs : Lfts (T .signature .lifetimes)) → AtExit T κs → A) → Type 0
 OneLeft T P left =
     (κs : Lfts (T .signature .lifetimes)) (a : Args (T .signature) κs) (r r′ : Res (T .signature) κs) (x x′ : AtExit T κs)
     → P κs a r x

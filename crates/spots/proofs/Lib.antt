@@ -11,3 +11,4 @@ pub mod Loading
 pub mod Rounding
 pub mod OnArrays
 pub mod One
+pub mod Shapes
