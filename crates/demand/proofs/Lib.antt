@@ -7,3 +7,4 @@ pub mod Sum
 pub mod Demands
 pub mod Bench
 pub mod One
+pub mod Sheets

@@ -1,3 +1,4 @@
 pub mod History
 pub mod Totals
 pub mod Demands
+pub mod Sheets

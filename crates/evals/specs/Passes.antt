@@ -1,5 +1,5 @@
--- A part's nodes, evaluated in one pass: each node's value and whether its needs are met, from what was found before it. What
--- this means for a network is not said here.
+-- A part's nodes, evaluated in one pass: each node's value and whether its needs are met, from what was found before it. In
+-- a network these are its nodes' present values and needs (spots/proofs/Passing).
 use mathlib.Core.Bool.{Bool, true, false, cond, _&&_}
 use mathlib.Core.List.{List}
 use Prim.Native.Nat.{ℕ, zero, suc, _+_, _*_, _%_}

@@ -1,5 +1,5 @@
--- Finish rules on the arrays, those of the parts from lo up to hi at once: which of them are ready, and what they change. What this means for a network
--- is not said here.
+-- Finish rules on the arrays, those of the parts from lo up to hi at once: which of them are ready, and what they change. In a network this is
+-- what they leave when tried in turn (spots/proofs/Rounding).
 use mathlib.Core.Bool.{Bool, true, false, cond, not, _&&_}
 use mathlib.Core.List.{List}
 use Prim.Native.Nat.{ℕ, zero, suc, _+_, _-_, _%_, _^_, min}

@@ -1,5 +1,5 @@
--- Put rules tried one after the other on the arrays: before each, the nodes up to its own are evaluated, each once. What this means for a network is
--- not said here.
+-- Put rules tried one after the other on the arrays: before each, the nodes up to its own are evaluated, each once. In a network these are its put
+-- rules, tried in turn (spots/proofs/Phases).
 use mathlib.Core.Path.{_≡_}
 use mathlib.Core.Bool.{Bool, true, false, cond, not, _&&_}
 use mathlib.Core.List.{List}

@@ -1,5 +1,5 @@
 -- Rules on a network's arrays, by its plan: the oldest tokens are loaded, put rules are tried with the evaluation on the way, and Finishes that are ready then
--- are fired at once. A round does all of them; what that means in the outline's words is said of them in specs/Meaning.
+-- are fired at once. A round does all of them; in the outline's words it is RoundMeans (rounds/specs/Meaning).
 use mathlib.Core.Path.{_≡_}
 use mathlib.Core.Bool.{Bool, true, false}
 use mathlib.Core.List.{List}
