@@ -1,7 +1,7 @@
 # The calls on a network behind references (crates/network): `tools/wrap tools/wrap.d/network.py` writes their proofs.
 crate = 'network'
 lent = 'Rattle.base.proofs.Lent'
-homes = {'Plan': 'plans', 'Network': 'spots', 'Drained': 'moves', 'Told': 'moves', 'Ran': 'rounds'}
+homes = {'Plan': 'plans', 'Network': 'spots', 'Drained': 'moves', 'Told': 'moves', 'Ran': 'rounds', 'Played': 'orders'}
 numbers = [('limit', 'u32')] + [(f, 'usize') for f in 'nodes parts inputs channels outputs queues rules'.split()]
 arrays = [
     ('code', '[u8; 1024]'), ('width', '[u8; 1024]'), ('join', '[u8; 1024]'), ('k', '[u32; 1024]'), ('ra', '[u16; 1024]'), ('rb', '[u16; 1024]'),
@@ -17,6 +17,7 @@ plan = '(planIn ' + ' '.join(f if f in ('outputs', 'rules') else f'(plan .{f})' 
 old = '(netIn ' + ' '.join(f'(network .{f})' for f, _ in state) + ')'
 new = '(netIn ' + ' '.join(f'z-{f}' for f, _ in state) + ')'
 stores = 'use Rattle.spots.specs.Stores.{netIn, planIn}\n'
+lists = [('kinds', '&[]', 'u32'), ('indexes', '&[]', 'u32'), ('values', '&[]', 'u32'), ('drained', '&mut []', 'u32')]
 
 
 def law(name):
@@ -64,4 +65,10 @@ wrappers = [
         args=[('plan', 'parts'), ('network', 'count'), 'part'], result=('struct', 'Told'),
         uses='use Rattle.moves.specs.Moves.{finishedOn}\n' + law('finished-whole'),
         said='r ≡ finishedOn plan network part', says='finished-whole plan network part r e'),
+    dict(
+        fn='order', callee='order_by',
+        params=[('plan', '&', 'Plan'), ('network', '&mut', 'Network')] + lists, args=[('plan', f) for f, _ in numbers + arrays if f != 'rules'] + whole + [p for p, _, _ in lists],
+        result=('struct', 'Played'), uses=stores + 'use Rattle.orders.specs.Orders.{OrderPromise}\n' + law('order-whole'),
+        said=f'(rules : ℕ) → OrderPromise {plan.replace(" outputs ", " (plan .outputs) ")} {old} kinds indexes values drained r {new} z-drained',
+        says=f'order-whole plan network kinds indexes values drained r {new} z-drained (e (plan .rules))'),
 ]

@@ -11,8 +11,11 @@ use contract.Lifetimes.{Lfts}
 use denote.Ref.{now}
 use denote.Triple.Clauses.{AtExit}
 use denote.Triple.Entry.{Args, Res}
+use mathlib.Core.List.{List}
+use Prim.Native.Nat.{ℕ}
 use Rattle.base.specs.Promises.{OneLeft}
-use Rattle.network.specs.Calls.{FeedCall, DrainCall, FireCall, ReadyCall, RoundCall, RunCall, TokensCall, FinishedCall}
+use Rattle.spots.specs.declared.Network.{Network}
+use Rattle.network.specs.Calls.{FeedCall, DrainCall, FireCall, ReadyCall, RoundCall, RunCall, TokensCall, FinishedCall, OrderCall}
 use Rattle.network.proofs.feed as feed
 use Rattle.network.proofs.drain as drain
 use Rattle.network.proofs.fire as fire
@@ -21,6 +24,7 @@ use Rattle.network.proofs.run as run
 use Rattle.network.proofs.ready as ready
 use Rattle.network.proofs.tokens as tokens
 use Rattle.network.proofs.finished as finished
+use Rattle.network.proofs.order as order
 
 -- what each `ensures` says of the arguments, the result and what is left
 abbrev feedSays : (κs : Lfts 2) → Args feed.signature κs → Res feed.signature κs → AtExit feed.ended κs → Type 0
@@ -47,6 +51,10 @@ tokensSays κs a r x = TokensCall (now (a .0)) (now (a .1 .0)) (a .1 .1 .0) r
 abbrev finishedSays : (κs : Lfts 2) → Args finished.signature κs → Res finished.signature κs → AtExit finished.ended κs → Type 0
 finishedSays κs a r x = FinishedCall (now (a .0)) (now (a .1 .0)) (a .1 .1 .0) r
 
+abbrev orderSays : (κs : Lfts 6) → Args order.signature κs → Res order.signature κs → AtExit order.ended κs → Type 0
+orderSays κs a r x =
+    OrderCall (now (a .0)) (now (a .1 .0)) (now (a .1 .1 .0)) (now (a .1 .1 .1 .0)) (now (a .1 .1 .1 .1 .0)) (now (a .1 .1 .1 .1 .1 .0)) r (now (x .1 .0)) (now (x .1 .1 .1 .1 .1 .0))
+
 module _ {M : Type 1} (𝓤 : URA M) (H : Heap 𝓤) (A : Atoms 𝓤) (mem : Memory → SProp 𝓤) (runs : Routine → Fun 𝓤) where
   pub feed-says : (κs : Lfts 2) (a : Args feed.signature κs) (r : Res feed.signature κs) (x : AtExit feed.ended κs) → feed.clauses 𝓤 H A mem runs κs a .ensures tt r x ≡ fact 𝓤 (feedSays κs a r x)
   feed-says κs a r x = refl
@@ -72,6 +80,9 @@ module _ {M : Type 1} (𝓤 : URA M) (H : Heap 𝓤) (A : Atoms 𝓤) (mem : Mem
   pub finished-says : (κs : Lfts 2) (a : Args finished.signature κs) (r : Res finished.signature κs) (x : AtExit finished.ended κs) → finished.clauses 𝓤 H A mem runs κs a .ensures tt r x ≡ fact 𝓤 (finishedSays κs a r x)
   finished-says κs a r x = refl
 
+  pub order-says : (κs : Lfts 6) (a : Args order.signature κs) (r : Res order.signature κs) (x : AtExit order.ended κs) → order.clauses 𝓤 H A mem runs κs a .ensures tt r x ≡ fact 𝓤 (orderSays κs a r x)
+  order-says κs a r x = refl
+
 pub feed-one : OneLeft feed.ended feedSays (λ κs x. now (x .1 .0))
 feed-one κs a r r′ x x′ p q = (p .0 ∙ sym (q .0), p .1 ∙ sym (q .1))
 
@@ -95,3 +106,7 @@ tokens-one κs a r r′ x x′ p q = (p .0 ∙ sym (q .0), refl)
 
 pub finished-one : OneLeft {A = Unit} finished.ended finishedSays (λ κs x. tt)
 finished-one κs a r r′ x x′ p q = (p .0 ∙ sym (q .0), refl)
+
+-- the network and the lent list
+pub order-one : OneLeft {A = Network × List ℕ} order.ended orderSays (λ κs x. (now (x .1 .0), now (x .1 .1 .1 .1 .1 .0)))
+order-one κs a r r′ x x′ p q = (p .0 .0 ∙ sym (q .0 .0), λ i. ((p .0 .1 ∙ sym (q .0 .1)) i, (p .0 .2 ∙ sym (q .0 .2)) i))

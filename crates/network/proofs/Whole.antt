@@ -5,6 +5,7 @@ use mathlib.Core.Bool.{Bool, true, false, cond}
 use mathlib.Core.List.{List}
 use Prim.Native.Nat.{ℕ}
 use lib.Dec.{eqb, ltb}
+use lib.ListN.{length}
 use Rattle.lanes.specs.Lanes.{pushCells, pushUsed, takeCells, takeUsed}
 use Rattle.nets.specs.Rounds.{run}
 use Rattle.plans.specs.declared.Plan.{Plan}
@@ -21,7 +22,12 @@ use Rattle.rounds.specs.Fires.{fireAnswer, Fired}
 use Rattle.rounds.specs.Runs.{RunOn, Rounded, ranOf, tooMany, runOn, Runs}
 use Rattle.rounds.proofs.Firing.{fire-means}
 use Rattle.rounds.proofs.Playing.{round-means, run-means}
-use Rattle.network.specs.Calls.{FeedCall, DrainCall, FireCall, ReadyCall, RoundCall, RunCall, TokensCall, FinishedCall}
+use Rattle.nets.specs.Orders.{entryAt}
+use Rattle.orders.specs.declared.Played.{Played}
+use Rattle.orders.specs.Orders.{PlayedOn, orderOn, orderAnswer, refusedOrder, playedOf, OrderPromise}
+use Rattle.orders.proofs.Turns.{drains-fit}
+use Rattle.orders.proofs.Ordering.{order-means}
+use Rattle.network.specs.Calls.{OrderCall, FeedCall, DrainCall, FireCall, ReadyCall, RoundCall, RunCall, TokensCall, FinishedCall}
 
 -- two arrays that change under one test, in the whole network
 by-test : (b : Bool) (x c y u : List ℕ) (f : List Bool) (h k : List ℕ) → netIn (cond b x c) (cond b y u) f h k ≡ cond b (netIn x y f h k) (netIn c u f h k)
@@ -72,3 +78,18 @@ tokens-whole P L q r e = (e, λ G. e ∙ tokens-means P L G q)
 
 pub finished-whole : (P : Plan) (L : Network) (p : ℕ) (r : Told) → r ≡ finishedOn P L p → FinishedCall P L p r
 finished-whole P L p r e = (e, λ G. e ∙ finished-means P L G p)
+
+pub order-whole : (P : Plan) (L : Network) (kinds indexes values lent : List ℕ) (r : Played) (M : Network) (lent′ : List ℕ) → OrderPromise P L kinds indexes values lent r M lent′
+    → OrderCall P L kinds indexes values lent r M lent′
+order-whole P L kinds indexes values lent r M lent′ e = (
+  e,
+  λ G z.
+      let a : ℕ = orderAnswer kinds indexes values (length lent) in
+      let t = order-means P L G (entryAt kinds indexes values) lent (length kinds) in
+      let o : PlayedOn = orderOn P L (entryAt kinds indexes values) lent (length kinds) in
+      let b : eqb a 0 ≡ true = ap (λ x. eqb x 0) z in (
+        e .0 ∙ ap (λ x. cond x (playedOf o) (refusedOrder a)) b ∙ (λ i. record { answer = 0; feeds = t .feeds-are i; drains = t .drains-are i; firings = t .firings-are i }),
+        e .1 ∙ ap (λ x. cond x (o .network) L) b ∙ t .left-is,
+        e .2 ∙ ap (λ x. cond x (o .lent) lent) b ∙ t .lent-is (drains-fit kinds indexes values (length lent) z),
+      ),
+)

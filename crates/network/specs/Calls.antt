@@ -2,12 +2,13 @@
 -- plan and a network that earlier calls gave (`Given`): the answer to its entry in an order, and the arrays of the state after it.
 use mathlib.Core.Path.{_≡_}
 use mathlib.Core.Bool.{cond}
+use mathlib.Core.List.{List, _++_}
 use Prim.Native.Nat.{ℕ}
 use lib.Dec.{eqb, ltb}
-use lib.ListN.{length, getD}
+use lib.ListN.{length, getD, drop}
 use Rattle.nets.specs.State.{State}
 use Rattle.nets.specs.Rounds.{roundFires, afterRound, run, Ran as NetRan}
-use Rattle.nets.specs.Orders.{outputQueue}
+use Rattle.nets.specs.Orders.{outputQueue, entryAt, order, Played as NetPlayed}
 use Rattle.plans.specs.declared.Plan.{Plan}
 use Rattle.spots.specs.declared.Network.{Network}
 use Rattle.spots.specs.Stores.{storeOf, Given, netOf}
@@ -19,6 +20,8 @@ use Rattle.moves.specs.Meaning.{feedEntry, drainEntry, fireEntry, answerOf, sta
 use Rattle.rounds.specs.declared.Ran.{Ran}
 use Rattle.rounds.specs.Fires.{fireAnswer, fireLeft}
 use Rattle.rounds.specs.Runs.{tooMany, Runs}
+use Rattle.orders.specs.declared.Played.{Played}
+use Rattle.orders.specs.Orders.{orderAnswer, OrderPromise}
 
 abbrev pub FeedCall : Plan → Network → ℕ → ℕ → ℕ → Network → Type 0
 FeedCall P L j x r M =
@@ -67,3 +70,18 @@ TokensCall P L q r = (r ≡ tokensOn P L q) × ((G : Given P L) → r ≡ told (
 
 abbrev pub FinishedCall : Plan → Network → ℕ → Told → Type 0
 FinishedCall P L p r = (r ≡ finishedOn P L p) × ((G : Given P L) → r ≡ told (ltb p (netOf G .parts)) (G .s .count p))
+
+-- An order of three lists: 12 where their lengths differ, 16 where it has more drains than the lent list has places, and then none is tried. Else its entries are
+-- tried in turn; drained values go to the lent list, from its start, and the rest of it stays.
+abbrev pub played : NetPlayed → Played
+played t = record { answer = 0; feeds = t .feeds; drains = t .drains; firings = t .firings }
+
+abbrev pub Ordered : NetPlayed → List ℕ → Played → Network → List ℕ → Type 0
+Ordered t lent r M lent′ = (r ≡ played t) × (M ≡ storeOf (t .state)) × (lent′ ≡ t .drained ++ drop (length (t .drained)) lent)
+
+abbrev pub OrderCall : Plan → Network → List ℕ → List ℕ → List ℕ → List ℕ → Played → Network → List ℕ → Type 0
+OrderCall P L kinds indexes values lent r M lent′ =
+    OrderPromise P L kinds indexes values lent r M lent′
+    × ((G : Given P L)
+    → orderAnswer kinds indexes values (length lent) ≡ 0
+    → Ordered (order (netOf G) (G .s) (entryAt kinds indexes values) (length kinds)) lent r M lent′)

@@ -1,4 +1,4 @@
-// The calls on a network behind references, which is not copied: feeds, drains, rules, rounds, runs, and what a bench hand asks.
+// The calls on a network behind references, which is not copied: feeds, drains, rules, rounds, runs, orders, and what a bench hand asks.
 ghost use mathlib.Core.Path.{_≡_};
 ghost use Prim.Native.Nat.{ℕ, min};
 ghost use lib.Dec.{ltb};
@@ -7,7 +7,8 @@ ghost use Rattle.moves.specs.Moves.{Fed, outputAt, Took, told};
 ghost use Rattle.spots.specs.Stores.{netIn, planIn};
 ghost use Rattle.rounds.specs.Fires.{fireAnswer, Fired};
 ghost use Rattle.rounds.specs.Runs.{Rounded, Runs};
-ghost use Rattle.network.specs.Calls.{FeedCall, DrainCall, FireCall, ReadyCall, RoundCall, RunCall, TokensCall, FinishedCall};
+ghost use Rattle.orders.specs.Orders.{OrderPromise};
+ghost use Rattle.network.specs.Calls.{FeedCall, DrainCall, FireCall, ReadyCall, RoundCall, RunCall, TokensCall, FinishedCall, OrderCall};
 
 // The public functions below lend the fields of a plan and of a network to these, at one lifetime.
 fn feed_by<'x>(
@@ -272,6 +273,70 @@ fn finished_by<'x>(parts: &'x usize, count: &'x [u32; 32], part: u32) -> moves::
     moves::finished_in(*parts, count, part)
 }
 
+fn order_by<'x>(
+    limit: &'x u32,
+    nodes: &'x usize,
+    parts: &'x usize,
+    inputs: &'x usize,
+    channels: &'x usize,
+    outputs: &'x usize,
+    queues: &'x usize,
+    code: &'x [u8; 1024],
+    width: &'x [u8; 1024],
+    join: &'x [u8; 1024],
+    k: &'x [u32; 1024],
+    ra: &'x [u16; 1024],
+    rb: &'x [u16; 1024],
+    rc: &'x [u16; 1024],
+    part: &'x [u8; 1024],
+    node: &'x [u16; 512],
+    from: &'x [u8; 512],
+    into: &'x [u8; 512],
+    depth: &'x [u8; 512],
+    cells: &'x mut [u32; 8192],
+    used: &'x mut [u8; 512],
+    flag: &'x mut [bool; 512],
+    held: &'x mut [u32; 1024],
+    count: &'x mut [u32; 32],
+    kinds: &[u32],
+    indexes: &[u32],
+    values: &[u32],
+    drained: &mut [u32],
+) -> orders::Played
+    ensures { λ r. ⌜ ((rules : ℕ) → OrderPromise (planIn (now (limit .entry)) (now (nodes .entry)) (now (parts .entry)) (now (inputs .entry)) (now (channels .entry)) (now (outputs .entry)) (now (queues .entry)) rules (now (code .entry)) (now (width .entry)) (now (join .entry)) (now (k .entry)) (now (ra .entry)) (now (rb .entry)) (now (rc .entry)) (now (part .entry)) (now (node .entry)) (now (from .entry)) (now (into .entry)) (now (depth .entry))) (netIn (now (cells .entry)) (now (used .entry)) (now (flag .entry)) (now (held .entry)) (now (count .entry))) (now (kinds .entry)) (now (indexes .entry)) (now (values .entry)) (now (drained .entry)) r (netIn (now (cells .exit)) (now (used .exit)) (now (flag .exit)) (now (held .exit)) (now (count .exit))) (now (drained .exit))) ⌝ }
+{
+    orders::order_in(
+        code,
+        width,
+        join,
+        k,
+        ra,
+        rb,
+        rc,
+        part,
+        node,
+        from,
+        into,
+        depth,
+        *limit,
+        *nodes,
+        *parts,
+        *inputs,
+        *channels,
+        *outputs,
+        *queues,
+        kinds,
+        indexes,
+        values,
+        drained,
+        cells,
+        used,
+        flag,
+        held,
+        count,
+    )
+}
+
 // Feeds an input with a value: 12 where there is no such input, 13 where the value is not below 2^w, 14 where its queue is full.
 pub fn feed(plan: &plans::Plan, network: &mut spots::Network, input: u32, value: u32) -> u32
     ensures { λ r. ⌜ FeedCall (now (plan .entry)) (now (network .entry)) input value r (now (network .exit)) ⌝ }
@@ -441,4 +506,48 @@ pub fn finished(plan: &plans::Plan, network: &spots::Network, part: u32) -> move
     ensures { λ r. ⌜ FinishedCall (now (plan .entry)) (now (network .entry)) part r ⌝ }
 {
     finished_by(&plan.parts, &network.count, part)
+}
+
+// An order of three lists, its entries tried in turn: 12 where their lengths differ, 16 where it has more drains than `drained` has places. Drained values go to
+// `drained` from its start.
+pub fn order(
+    plan: &plans::Plan,
+    network: &mut spots::Network,
+    kinds: &[u32],
+    indexes: &[u32],
+    values: &[u32],
+    drained: &mut [u32],
+) -> orders::Played
+    ensures { λ r. ⌜ OrderCall (now (plan .entry)) (now (network .entry)) (now (kinds .entry)) (now (indexes .entry)) (now (values .entry)) (now (drained .entry)) r (now (network .exit)) (now (drained .exit)) ⌝ }
+{
+    order_by(
+        &plan.limit,
+        &plan.nodes,
+        &plan.parts,
+        &plan.inputs,
+        &plan.channels,
+        &plan.outputs,
+        &plan.queues,
+        &plan.code,
+        &plan.width,
+        &plan.join,
+        &plan.k,
+        &plan.ra,
+        &plan.rb,
+        &plan.rc,
+        &plan.part,
+        &plan.node,
+        &plan.from,
+        &plan.into,
+        &plan.depth,
+        &mut network.cells,
+        &mut network.used,
+        &mut network.flag,
+        &mut network.held,
+        &mut network.count,
+        kinds,
+        indexes,
+        values,
+        drained,
+    )
 }
