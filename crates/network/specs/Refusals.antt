@@ -1,0 +1,48 @@
+-- When a feed, a drain and a fire are refused, exactly, and that a refused one changes nothing (outline, "Numbers given back"): for a network that earlier calls
+-- gave. The other calls are refused by their own numbers alone: a run by 12, an order by 12 and 16 (`Calls`).
+use mathlib.Core.Path.{_≡_}
+use mathlib.Core.Bool.{true, false}
+use mathlib.Core.List.{[]}
+use mathlib.Core.Logic.{_↔_}
+use Prim.Native.Nat.{ℕ, _^_, _≤_, _<_}
+use lib.ListN.{length}
+use Rattle.cycles.specs.Netlists.{widthOf}
+use Rattle.nets.specs.Actions.{ready}
+use Rattle.nets.specs.Rounds.{ruleCount, rule}
+use Rattle.nets.specs.Orders.{Entry, outputQueue}
+use Rattle.plans.specs.declared.Plan.{Plan}
+use Rattle.spots.specs.declared.Network.{Network}
+use Rattle.spots.specs.Stores.{Given, netOf}
+use Rattle.moves.specs.Meaning.{feedEntry, drainEntry, fireEntry, answerOf, stateAfter}
+
+-- 12, no such input; 13, a value not below 2^w; 14, full
+pub record FeedExactly {P : Plan} {L : Network} (G : Given P L) (j x : ℕ) : Type 0 where
+  pub none : (answerOf G (feedEntry j x) ≡ 12) ↔ (netOf G .ins ≤ j)
+  pub large : (answerOf G (feedEntry j x) ≡ 13) ↔ ((j < netOf G .ins) × (2 ^ widthOf (G .n) (netOf G .node j) ≤ x))
+  pub full : (answerOf G (feedEntry j x) ≡ 14) ↔ ((j < netOf G .ins) × (x < 2 ^ widthOf (G .n) (netOf G .node j)) × (netOf G .depth j ≤ length (G .s .queue j)))
+  pub done : (answerOf G (feedEntry j x) ≡ 0) ↔ ((j < netOf G .ins) × (x < 2 ^ widthOf (G .n) (netOf G .node j)) × (length (G .s .queue j) < netOf G .depth j))
+
+-- 12, no such output; 14, empty
+pub record DrainExactly {P : Plan} {L : Network} (G : Given P L) (j : ℕ) : Type 0 where
+  pub none : (answerOf G (drainEntry j) ≡ 12) ↔ (netOf G .outs ≤ j)
+  pub empty : (answerOf G (drainEntry j) ≡ 14) ↔ ((j < netOf G .outs) × (G .s .queue (outputQueue (netOf G) j) ≡ []))
+  pub done : (answerOf G (drainEntry j) ≡ 0) ↔ ((j < netOf G .outs) × (0 < length (G .s .queue (outputQueue (netOf G) j))))
+
+-- 12, no such rule; 14, not ready
+pub record FireExactly {P : Plan} {L : Network} (G : Given P L) (r : ℕ) : Type 0 where
+  pub none : (answerOf G (fireEntry r) ≡ 12) ↔ (ruleCount (netOf G) ≤ r)
+  pub waits : (answerOf G (fireEntry r) ≡ 14) ↔ ((r < ruleCount (netOf G)) × (ready (netOf G) (G .s) (rule (netOf G) r) ≡ false))
+  pub done : (answerOf G (fireEntry r) ≡ 0) ↔ ((r < ruleCount (netOf G)) × (ready (netOf G) (G .s) (rule (netOf G) r) ≡ true))
+
+abbrev pub FeedExact : Type 0
+FeedExact = (P : Plan) (L : Network) (G : Given P L) (j x : ℕ) → FeedExactly G j x
+
+abbrev pub DrainExact : Type 0
+DrainExact = (P : Plan) (L : Network) (G : Given P L) (j : ℕ) → DrainExactly G j
+
+abbrev pub FireExact : Type 0
+FireExact = (P : Plan) (L : Network) (G : Given P L) (r : ℕ) → FireExactly G r
+
+-- what is refused changes nothing: of a feed, a drain, a fire, and of an entry of another kind
+abbrev pub RefusedStays : Type 0
+RefusedStays = (P : Plan) (L : Network) (G : Given P L) (e : Entry) → (answerOf G e ≡ 0 → ⊥) → stateAfter G e ≡ G .s
