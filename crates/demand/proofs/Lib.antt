@@ -8,3 +8,5 @@ pub mod Demands
 pub mod Bench
 pub mod One
 pub mod Sheets
+pub mod Called
+pub mod Drained

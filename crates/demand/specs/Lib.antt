@@ -2,3 +2,4 @@ pub mod History
 pub mod Totals
 pub mod Demands
 pub mod Sheets
+pub mod Calls

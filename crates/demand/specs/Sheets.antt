@@ -1,5 +1,5 @@
 -- Demand 3 of what a host has: of every two sheets that opening accepts, and of every network that calls give after it. A call leaves a network that is given
--- again (FeedKeeps, DrainKeeps of `moves`; FireKeeps, RoundKeeps, RunKeeps of `rounds`; OrderKeeps of `orders`), so that this goes on for any list of calls.
+-- again (FeedKeeps, DrainKeeps of `moves`; FireKeeps, RoundKeeps, RunKeeps of `rounds`; OrderKeeps of `orders`), so that this goes on: `Calls` says it of any list of calls.
 use mathlib.Core.Path.{_≡_}
 use mathlib.Core.List.{List}
 use Prim.Native.Nat.{ℕ}

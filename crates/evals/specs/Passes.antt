@@ -1,4 +1,4 @@
--- A part's nodes, evaluated in one pass: each node's value and whether its needs are met, from what was found before it. In
+-- All parts' nodes, evaluated in one pass, each in its own part: each node's value and whether its needs are met, from what was found before it. In
 -- a network these are its nodes' present values and needs (spots/proofs/Passing).
 use mathlib.Core.Bool.{Bool, true, false, cond, _&&_}
 use mathlib.Core.List.{List}

@@ -11,7 +11,7 @@ use lib.ListN.{length}
 use Rattle.base.specs.Checks.{whole, verdict}
 use Rattle.cycles.specs.Netlists.{widthOf}
 use Rattle.nets.specs.Lists.{bit}
-use Rattle.nets.specs.Net.{Net}
+use Rattle.nets.specs.Net.{Net, Good}
 use Rattle.nets.specs.State.{State, someToken}
 use Rattle.nets.specs.Actions.{Action, feed, drain, room, ready, done, step, play}
 use Rattle.nets.specs.Rounds.{ruleCount, rule}
@@ -19,11 +19,13 @@ use Rattle.nets.specs.Orders.{Entry, outputQueue, asked}
 use Rattle.nets.specs.Calls.{answerTo, someReady}
 use Rattle.nets.proofs.Goods.{good}
 use Rattle.nets.proofs.Calls.{answers-right}
+use Rattle.nets.proofs.Ready.{puts, put-ready, finishes, finish-ready}
+use Rattle.nets.proofs.Needs.{needs-are}
 use Rattle.plans.specs.declared.Plan.{Plan}
 use Rattle.spots.specs.declared.Network.{Network}
 use Rattle.spots.specs.Stores.{Given, netOf}
 use Rattle.moves.specs.Meaning.{feedEntry, drainEntry, fireEntry}
-use Rattle.network.specs.Refusals.{FeedExact, DrainExact, FireExact, RefusedStays}
+use Rattle.network.specs.Refusals.{ReadyExact, FeedExact, DrainExact, FireExact, RefusedStays}
 
 -- ---- two checks, and three
 
@@ -151,6 +153,26 @@ fire-exact P L G r =
       none = (λ f. ltb-false r (ruleCount N) (two-12 a b .0 (sym e ∙ f)), λ l. e ∙ two-12 a b .1 (le-ltb r (ruleCount N) l));
       waits = (λ f. let h = two-14 a b .0 (sym e ∙ f) in (ltb-true r (ruleCount N) (h .0), h .1), λ l. e ∙ two-14 a b .1 (lt-ltb r (ruleCount N) (l .0), l .1));
       done = (λ f. let h = two-0 a b .0 (sym e ∙ f) in (ltb-true r (ruleCount N) (h .0), h .1), λ l. e ∙ two-0 a b .1 (lt-ltb r (ruleCount N) (l .0), l .1));
+    }
+
+-- ---- rules
+
+pub ready-exact : ReadyExact
+ready-exact P L G =
+    let N : Net = netOf G in
+    let s : State = G .s in
+    let H : Good N = good (G .n) (G .c) (G .net-good) (G .cut-good) (G .limit) in
+    record {
+      puts = λ q low high.
+          let f = H .after-put q low high in
+          let w = needs-are N H s (N .from q) (N .node q) (H .put-node q f) in (
+            λ e. let r = puts N s q e in record { off = r .off; space = r .space; needs = w .0 (r .needs); below = r .limited },
+            λ r. put-ready N s q (record { inside = f; limited = r .below; off = r .off; space = r .space; needs = w .1 (r .needs) }),
+          );
+      finishes = λ p l. (
+        λ e. let r = finishes N s p e in record { on = r .on; full = r .full; below = r .limited },
+        λ r. finish-ready N s p (record { inside = l; limited = r .below; on = r .on; full = r .full }),
+      );
     }
 
 -- ---- a refused entry asks for nothing, or for one action that is not ready

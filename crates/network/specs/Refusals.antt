@@ -1,5 +1,5 @@
 -- When a feed, a drain and a fire are refused, exactly, and that a refused one changes nothing (outline, "Numbers given back"): for a network that earlier calls
--- gave. The other calls are refused by their own numbers alone: a run by 12, an order by 12 and 16 (`Calls`).
+-- gave. `ready` answers as fire does. The other calls are refused by their own numbers alone: a run, `tokens` and `finished` by 12, an order by 12 and 16 (`Calls`).
 use mathlib.Core.Path.{_≡_}
 use mathlib.Core.Bool.{true, false}
 use mathlib.Core.List.{[]}
@@ -7,13 +7,39 @@ use mathlib.Core.Logic.{_↔_}
 use Prim.Native.Nat.{ℕ, _^_, _≤_, _<_}
 use lib.ListN.{length}
 use Rattle.cycles.specs.Netlists.{widthOf}
-use Rattle.nets.specs.Actions.{ready}
+use Rattle.nets.specs.Net.{Net}
+use Rattle.nets.specs.State.{State, someToken, Reaches}
+use Rattle.nets.specs.Actions.{put, finish, ready}
 use Rattle.nets.specs.Rounds.{ruleCount, rule}
 use Rattle.nets.specs.Orders.{Entry, outputQueue}
 use Rattle.plans.specs.declared.Plan.{Plan}
 use Rattle.spots.specs.declared.Network.{Network}
 use Rattle.spots.specs.Stores.{Given, netOf}
 use Rattle.moves.specs.Meaning.{feedEntry, drainEntry, fireEntry, answerOf, stateAfter}
+
+-- ---- when a rule is ready (outline, "Rules of the network")
+
+-- a put rule: its flag is off, its queue has room, each queue that it needs has a token, and its part is below the cycle limit
+pub record PutNow (N : Net) (s : State) (q : ℕ) : Type 0 where
+  pub off : s .flag q ≡ false
+  pub space : length (s .queue q) < N .depth q
+  pub needs : (p : ℕ) → Reaches N (N .from q) (N .node q) p → someToken (s .queue p) ≡ true
+  pub below : s .count (N .from q) < N .limit
+
+-- a Finish: all the part's flags are on, all its incoming queues have a token, and it is below the cycle limit
+pub record FinishNow (N : Net) (s : State) (p : ℕ) : Type 0 where
+  pub on : (q : ℕ) → q < N .queues → N .from q ≡ p → s .flag q ≡ true
+  pub full : (q : ℕ) → q < N .queues → N .into q ≡ p → someToken (s .queue q) ≡ true
+  pub below : s .count p < N .limit
+
+pub record ReadyExactly (N : Net) (s : State) : Type 0 where
+  pub puts : (q : ℕ) → N .ins ≤ q → q < N .queues → (ready N s (put q) ≡ true) ↔ PutNow N s q
+  pub finishes : (p : ℕ) → p < N .parts → (ready N s (finish p) ≡ true) ↔ FinishNow N s p
+
+abbrev pub ReadyExact : Type 0
+ReadyExact = (P : Plan) (L : Network) (G : Given P L) → ReadyExactly (netOf G) (G .s)
+
+-- ---- when a call is refused
 
 -- 12, no such input; 13, a value not below 2^w; 14, full
 pub record FeedExactly {P : Plan} {L : Network} (G : Given P L) (j x : ℕ) : Type 0 where

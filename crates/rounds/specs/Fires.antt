@@ -54,6 +54,6 @@ fireAnswer P L r =
 unfoldable pub fireLeft : Plan → Network → ℕ → Network
 fireLeft P L r = cond (isPut P r) (putLeft P L (queueOf P r)) (cond (isFinish P r) (finishLeft P L (partOf P r)) L)
 
--- what a fire, a round and a run promise: of each its answer or counts, and the network afterwards
+-- what firing promises: its answer, and the network afterwards
 abbrev pub Fired : Plan → Network → ℕ → ℕ → Network → Type 0
 Fired P L r answer M = (answer ≡ fireAnswer P L r) × (M ≡ fireLeft P L r)

@@ -28,7 +28,7 @@ unfoldable pub runOn : Plan → Network → ℕ → RunOn
 runOn P L zero = atRest L
 runOn P L (suc k) = cond (eqb (firedOn P L) 0) (after 1 0 (atRest (roundOn P L))) (after 1 (firedOn P L) (runOn P (roundOn P L) k))
 
--- 12 for more than 65,535 rounds, and then none is done
+-- what a run gives back; 12 for more than 65,535 rounds, and then none is done
 abbrev pub ranOf : RunOn → Ran
 ranOf r = record { answer = 0; rounds = r .rounds; firings = r .firings }
 

@@ -1,4 +1,5 @@
--- The arrays of a network that earlier calls gave: opening made its plan from two sheets that pass their checks, and they hold a state that actions reach.
+-- The arrays of a network that earlier calls gave: its plan is that of a netlist and a cut that pass their checks, as opening makes it of two sheets, and they hold
+-- a state that actions reach.
 use mathlib.Core.Path.{_≡_}
 use mathlib.Core.Bool.{Bool}
 use mathlib.Core.List.{List}
