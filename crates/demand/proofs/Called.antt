@@ -18,12 +18,18 @@ use Rattle.rounds.proofs.Firing.{fire-means}
 use Rattle.rounds.proofs.Playing.{round-means, run-means}
 use Rattle.orders.proofs.Ordering.{order-means}
 use Rattle.opens.proofs.Fresh.{given}
-use Rattle.demand.specs.Calls.{Call, feeds, drains, fires, round, runs, orders, leftBy, afterCalls, roundsOf, actionsOf, allActions, EachCalled}
+use Rattle.demand.specs.Calls.{Call, feeds, drains, fires, round, runs, orders, leftBy, afterCalls, roundsOf, EachIsActions, actionsOf, allActions, EachCalled}
 
 rounds-are : (N : Net) (k : ℕ) → rounds N k ≡ roundsOf N k
 unfolding rounds roundsOf
 rounds-are N zero = refl
 rounds-are N (suc k) = ap (λ xs. inOrder N ++ xs) (rounds-are N k)
+
+run-acts : (N : Net) (s : State) (k : ℕ) → run N s k .state ≡ play N s (roundsOf N (run N s k .rounds))
+run-acts N s k = run-plays N s k .0 ∙ ap (play N s) (rounds-are N (run N s k .rounds))
+
+pub each-is-actions : EachIsActions
+each-is-actions N s = record { rounds = refl; runs = run-acts N s; orders = order-plays N s }
 
 -- one call
 left-is : {P : Plan} {L : Network} (G : Given P L) (c : Call) → leftBy P L c ≡ storeOf (play (netOf G) (G .s) (actionsOf (netOf G) (G .s) c))
@@ -31,9 +37,7 @@ left-is {P} {L} G (feeds j x) = feed-means P L G j x .1
 left-is {P} {L} G (drains j) = drain-means P L G j .left-is
 left-is {P} {L} G (fires r) = fire-means P L G r .1
 left-is {P} {L} G round = round-means P L G .1
-left-is {P} {L} G (runs k) =
-    let N : Net = netOf G in
-    run-means P L G k .left-is ∙ ap storeOf (run-plays N (G .s) k .0 ∙ ap (play N (G .s)) (rounds-are N (run N (G .s) k .rounds)))
+left-is {P} {L} G (runs k) = run-means P L G k .left-is ∙ ap storeOf (run-acts (netOf G) (G .s) k)
 left-is {P} {L} G (orders e lent n) = order-means P L G e lent n .left-is ∙ ap storeOf (order-plays (netOf G) (G .s) e n)
 
 -- all of them

@@ -2,7 +2,7 @@
 -- queue that goes outside.
 use mathlib.Core.Path.{_≡_, refl, sym, _∙_, ap}
 use mathlib.Core.Bool.{Bool, true, false, cond, _&&_, and-false}
-use mathlib.Core.List.{List, [], _∷_, _++_}
+use mathlib.Core.List.{List, [], _∷_, _++_, append-nil, append-assoc}
 use mathlib.Core.Logic.{by-cases}
 use Prim.Native.Nat.{ℕ, zero, suc, _≤_, _<_}
 use native.Mathlib.Decide.{ℕ-discrete}
@@ -21,20 +21,12 @@ use Rattle.nets.proofs.Orders.{order-plays}
 use Rattle.demand.specs.History.{Past, nothing, noted, note, story}
 use Rattle.demand.specs.Calls.{drained, drainedBy, drainedAt, drainedFrom, orderActions, OrderDrains, OutputsDrained}
 
-append-nil : {A : Type 0} (xs : List A) → xs ++ [] ≡ xs
-append-nil [] = refl
-append-nil (x ∷ xs) = ap (λ l. x ∷ l) (append-nil xs)
-
-append-all : {A : Type 0} (xs ys zs : List A) → (xs ++ ys) ++ zs ≡ xs ++ (ys ++ zs)
-append-all [] ys zs = refl
-append-all (x ∷ xs) ys zs = ap (λ l. x ∷ l) (append-all xs ys zs)
-
 -- ---- orders
 
 drained-append : (N : Net) (s : State) (xs ys : List Action) → drainedBy N s (xs ++ ys) ≡ drainedBy N s xs ++ drainedBy N (play N s xs) ys
 unfolding drainedBy play
 drained-append N s [] ys = refl
-drained-append N s (a ∷ xs) ys = ap (λ l. drained N s a ++ l) (drained-append N (step N s a) xs ys) ∙ sym (append-all (drained N s a) (drainedBy N (step N s a) xs) (drainedBy N (play N (step N s a) xs) ys))
+drained-append N s (a ∷ xs) ys = ap (λ l. drained N s a ++ l) (drained-append N (step N s a) xs ys) ∙ sym (append-assoc (drained N s a) (drainedBy N (step N s a) xs) (drainedBy N (play N (step N s a) xs) ys))
 
 counted-drained : (N : Net) (t : Played) (a : Action) → ready N (t .state) a ≡ true → (counted N t a .drained ≡ t .drained ++ drained N (t .state) a) × (counted N t a .state ≡ done N (t .state) a)
 unfolding counted
@@ -56,7 +48,7 @@ tried-drains N t (a ∷ xs) =
     let s : State = t .state in
     split-on (λ b. ready N s a ≡ b → tried N (cond b (counted N t a) t) xs .drained ≡ t .drained ++ (drained N s a ++ drainedBy N (cond b (done N s a) s) xs)) (ready N s a)
     (λ _ e. let h = counted-drained N t a e in
-    tried-drains N (counted N t a) xs ∙ ap (λ l. l ++ drainedBy N (counted N t a .state) xs) (h .0) ∙ append-all (t .drained) (drained N s a) (drainedBy N (counted N t a .state) xs)
+    tried-drains N (counted N t a) xs ∙ ap (λ l. l ++ drainedBy N (counted N t a .state) xs) (h .0) ∙ append-assoc (t .drained) (drained N s a) (drainedBy N (counted N t a .state) xs)
     ∙ ap (λ u. t .drained ++ (drained N s a ++ drainedBy N u xs)) (h .1))
     (λ _ e. tried-drains N t xs ∙ ap (λ l. t .drained ++ (l ++ drainedBy N s xs)) (sym (waiting-drained N s a e))) refl
 
@@ -102,7 +94,7 @@ module _ (N : Net) (q : ℕ) (out : N .parts ≤ N .into q) where
   story-went s h [] = sym (append-nil (h .went q))
   story-went s h (a ∷ xs) =
       story-went (step N s a) (note N s a h) xs ∙ ap (λ l. l ++ drainedFrom N (step N s a) q xs) (note-went s h a)
-      ∙ append-all (h .went q) (drainedAt N s q a) (drainedFrom N (step N s a) q xs)
+      ∙ append-assoc (h .went q) (drainedAt N s q a) (drainedFrom N (step N s a) q xs)
 
 pub outputs-drained : OutputsDrained
 unfolding nothing

@@ -1,14 +1,8 @@
 -- Demand 3 of a netlist and a cut is that of the sheets that say them, and of every network that is given.
-use mathlib.Core.Path.{refl}
 use Rattle.net_sheet.specs.Reading.{netOf}
 use Rattle.cut_sheet.specs.Reading.{cutOf}
-use Rattle.nets.specs.Orders.{asked}
-use Rattle.nets.specs.Rounds.{run}
-use Rattle.nets.proofs.Rounds.{rounds, run-plays}
-use Rattle.nets.proofs.Orders.{order-plays}
-use Rattle.queues.specs.Lists.{listed}
 use Rattle.opens.proofs.Fresh.{net-passed, cut-passed}
-use Rattle.demand.specs.Sheets.{EachOpened, EachGiven, EachIsActions}
+use Rattle.demand.specs.Sheets.{EachOpened, EachGiven}
 use Rattle.demand.proofs.Demands.{demand-3}
 
 pub each-opened : EachOpened
@@ -16,11 +10,3 @@ each-opened net cut limit z = demand-3 (netOf net) (cutOf cut) (net-passed net c
 
 pub each-given : EachGiven
 each-given P L G = record { demand = demand-3 (G .n) (G .c) (G .net-good) (G .cut-good) (G .limit); state-is = G .reached .is }
-
-pub each-is-actions : EachIsActions
-each-is-actions N s =
-    record {
-      rounds = refl;
-      runs = λ k. (rounds N (run N s k .rounds), run-plays N s k .0);
-      orders = λ e k. (listed k (λ j. asked N (e j)), order-plays N s e k);
-    }

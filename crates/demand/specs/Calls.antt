@@ -10,7 +10,7 @@ use Rattle.queues.specs.Lists.{listed}
 use Rattle.nets.specs.Net.{Net}
 use Rattle.nets.specs.State.{State, fresh}
 use Rattle.nets.specs.Actions.{Action, feed, drain, put, finish, ready, step, play}
-use Rattle.nets.specs.Rounds.{inOrder, run}
+use Rattle.nets.specs.Rounds.{inOrder, afterRound, run}
 use Rattle.nets.specs.Orders.{Entry, asked, order}
 use Rattle.plans.specs.declared.Plan.{Plan}
 use Rattle.spots.specs.declared.Network.{Network}
@@ -57,6 +57,15 @@ roundsOf N (suc k) = inOrder N ++ roundsOf N k
 
 abbrev pub orderActions : Net → (ℕ → Entry) → ℕ → List Action
 orderActions N e n = listed n (λ k. asked N (e k))
+
+-- Rounds, runs and orders are these lists.
+pub record AsActions (N : Net) (s : State) : Type 0 where
+  pub rounds : afterRound N s ≡ play N s (inOrder N)
+  pub runs : (k : ℕ) → run N s k .state ≡ play N s (roundsOf N (run N s k .rounds))
+  pub orders : (e : ℕ → Entry) (n : ℕ) → order N s e n .state ≡ play N s (orderActions N e n)
+
+abbrev pub EachIsActions : Type 0
+EachIsActions = (N : Net) (s : State) → AsActions N s
 
 abbrev pub actionsOf : Net → State → Call → List Action
 actionsOf N s (feeds j x) = asked N (feedEntry j x)

@@ -4,11 +4,6 @@ use mathlib.Core.Path.{_≡_}
 use mathlib.Core.List.{List}
 use Prim.Native.Nat.{ℕ}
 use Rattle.net_sheet.specs.Reading.{netOf as sheetNet}
-use Rattle.nets.specs.Net.{Net}
-use Rattle.nets.specs.State.{State}
-use Rattle.nets.specs.Actions.{Action, play}
-use Rattle.nets.specs.Rounds.{inOrder, afterRound, run}
-use Rattle.nets.specs.Orders.{Entry, order}
 use Rattle.plans.specs.declared.Plan.{Plan}
 use Rattle.spots.specs.declared.Network.{Network}
 use Rattle.spots.specs.Stores.{Given, netOf}
@@ -28,12 +23,3 @@ pub record Alongside {P : Plan} {L : Network} (G : Given P L) : Type 0 where
 
 abbrev pub EachGiven : Type 0
 EachGiven = (P : Plan) (L : Network) (G : Given P L) → Alongside G
-
--- Rounds, runs and orders are lists of actions.
-pub record AsActions (N : Net) (s : State) : Type 0 where
-  pub rounds : afterRound N s ≡ play N s (inOrder N)
-  pub runs : (k : ℕ) → (xs : List Action) × (run N s k .state ≡ play N s xs)
-  pub orders : (e : ℕ → Entry) (k : ℕ) → (xs : List Action) × (order N s e k .state ≡ play N s xs)
-
-abbrev pub EachIsActions : Type 0
-EachIsActions = (N : Net) (s : State) → AsActions N s

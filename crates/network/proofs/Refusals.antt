@@ -8,7 +8,7 @@ use native.Mathlib.Omega.{arith}
 use borrow.Author.Tests.{lt-ltb, le-ltb, ltb-true, ltb-false, ne-eqb}
 use lib.Dec.{eqb, ltb}
 use lib.ListN.{length}
-use Rattle.base.specs.Checks.{whole, verdict}
+use Rattle.base.specs.Checks.{verdict}
 use Rattle.cycles.specs.Netlists.{widthOf}
 use Rattle.nets.specs.Lists.{bit}
 use Rattle.nets.specs.Net.{Net, Good}
@@ -24,61 +24,56 @@ use Rattle.nets.proofs.Needs.{needs-are}
 use Rattle.plans.specs.declared.Plan.{Plan}
 use Rattle.spots.specs.declared.Network.{Network}
 use Rattle.spots.specs.Stores.{Given, netOf}
+use Rattle.moves.specs.Moves.{feedChecked, drainChecked}
 use Rattle.moves.specs.Meaning.{feedEntry, drainEntry, fireEntry}
 use Rattle.network.specs.Refusals.{ReadyExact, FeedExact, DrainExact, FireExact, RefusedStays}
 
--- ---- two checks, and three
-
-two : Bool → Bool → ℕ
-two a b = verdict ((12, whole a) ∷ (14, whole b) ∷ []) .answer
-
-three : Bool → Bool → Bool → ℕ
-three a b d = verdict ((12, whole a) ∷ (13, whole b) ∷ (14, whole d) ∷ []) .answer
+-- ---- two checks, as a drain and a fire have them, and the three of a feed
 
 off : {A : Type 0} → true ≡ false → A
 off e = let z : _≡_ {A = ℕ} 1 0 = ap bit e in let y : ⊥ = omega arith in absurd y
 
-two-12 : (a b : Bool) → (two a b ≡ 12) ↔ (a ≡ false)
-unfolding two verdict
+two-12 : (a b : Bool) → (drainChecked a b ≡ 12) ↔ (a ≡ false)
+unfolding drainChecked verdict
 two-12 true true = (λ e. let y : ⊥ = omega (arith, e) in absurd y, λ h. off h)
 two-12 true false = (λ e. let y : ⊥ = omega (arith, e) in absurd y, λ h. off h)
 two-12 false b = (λ e. refl, λ h. refl)
 
-two-14 : (a b : Bool) → (two a b ≡ 14) ↔ ((a ≡ true) × (b ≡ false))
-unfolding two verdict
+two-14 : (a b : Bool) → (drainChecked a b ≡ 14) ↔ ((a ≡ true) × (b ≡ false))
+unfolding drainChecked verdict
 two-14 true true = (λ e. let y : ⊥ = omega (arith, e) in absurd y, λ h. off (h .1))
 two-14 true false = (λ e. (refl, refl), λ h. refl)
 two-14 false b = (λ e. let y : ⊥ = omega (arith, e) in absurd y, λ h. off (sym (h .0)))
 
-two-0 : (a b : Bool) → (two a b ≡ 0) ↔ ((a ≡ true) × (b ≡ true))
-unfolding two verdict
+two-0 : (a b : Bool) → (drainChecked a b ≡ 0) ↔ ((a ≡ true) × (b ≡ true))
+unfolding drainChecked verdict
 two-0 true true = (λ e. (refl, refl), λ h. refl)
 two-0 true false = (λ e. let y : ⊥ = omega (arith, e) in absurd y, λ h. off (sym (h .1)))
 two-0 false b = (λ e. let y : ⊥ = omega (arith, e) in absurd y, λ h. off (sym (h .0)))
 
-three-12 : (a b d : Bool) → (three a b d ≡ 12) ↔ (a ≡ false)
-unfolding three verdict
+three-12 : (a b d : Bool) → (feedChecked a b d ≡ 12) ↔ (a ≡ false)
+unfolding feedChecked verdict
 three-12 true true true = (λ e. let y : ⊥ = omega (arith, e) in absurd y, λ h. off h)
 three-12 true true false = (λ e. let y : ⊥ = omega (arith, e) in absurd y, λ h. off h)
 three-12 true false d = (λ e. let y : ⊥ = omega (arith, e) in absurd y, λ h. off h)
 three-12 false b d = (λ e. refl, λ h. refl)
 
-three-13 : (a b d : Bool) → (three a b d ≡ 13) ↔ ((a ≡ true) × (b ≡ false))
-unfolding three verdict
+three-13 : (a b d : Bool) → (feedChecked a b d ≡ 13) ↔ ((a ≡ true) × (b ≡ false))
+unfolding feedChecked verdict
 three-13 true true true = (λ e. let y : ⊥ = omega (arith, e) in absurd y, λ h. off (h .1))
 three-13 true true false = (λ e. let y : ⊥ = omega (arith, e) in absurd y, λ h. off (h .1))
 three-13 true false d = (λ e. (refl, refl), λ h. refl)
 three-13 false b d = (λ e. let y : ⊥ = omega (arith, e) in absurd y, λ h. off (sym (h .0)))
 
-three-14 : (a b d : Bool) → (three a b d ≡ 14) ↔ ((a ≡ true) × (b ≡ true) × (d ≡ false))
-unfolding three verdict
+three-14 : (a b d : Bool) → (feedChecked a b d ≡ 14) ↔ ((a ≡ true) × (b ≡ true) × (d ≡ false))
+unfolding feedChecked verdict
 three-14 true true true = (λ e. let y : ⊥ = omega (arith, e) in absurd y, λ h. off (h .2))
 three-14 true true false = (λ e. (refl, refl, refl), λ h. refl)
 three-14 true false d = (λ e. let y : ⊥ = omega (arith, e) in absurd y, λ h. off (sym (h .1)))
 three-14 false b d = (λ e. let y : ⊥ = omega (arith, e) in absurd y, λ h. off (sym (h .0)))
 
-three-0 : (a b d : Bool) → (three a b d ≡ 0) ↔ ((a ≡ true) × (b ≡ true) × (d ≡ true))
-unfolding three verdict
+three-0 : (a b d : Bool) → (feedChecked a b d ≡ 0) ↔ ((a ≡ true) × (b ≡ true) × (d ≡ true))
+unfolding feedChecked verdict
 three-0 true true true = (λ e. (refl, refl, refl), λ h. refl)
 three-0 true true false = (λ e. let y : ⊥ = omega (arith, e) in absurd y, λ h. off (sym (h .2)))
 three-0 true false d = (λ e. let y : ⊥ = omega (arith, e) in absurd y, λ h. off (sym (h .1)))
@@ -86,16 +81,16 @@ three-0 false b d = (λ e. let y : ⊥ = omega (arith, e) in absurd y, λ h. off
 
 -- ---- the answers
 
-feed-is : (N : Net) (s : State) (j x : ℕ) → answerTo N s (feedEntry j x) ≡ three (ltb j (N .ins)) (N .allow (N .node j) x) (ltb (length (s .queue j)) (N .depth j))
-unfolding answerTo three room
+feed-is : (N : Net) (s : State) (j x : ℕ) → answerTo N s (feedEntry j x) ≡ feedChecked (ltb j (N .ins)) (N .allow (N .node j) x) (ltb (length (s .queue j)) (N .depth j))
+unfolding answerTo feedChecked room
 feed-is N s j x = refl
 
-drain-is : (N : Net) (s : State) (j : ℕ) → answerTo N s (drainEntry j) ≡ two (ltb j (N .outs)) (someToken (s .queue (outputQueue N j)))
-unfolding answerTo two
+drain-is : (N : Net) (s : State) (j : ℕ) → answerTo N s (drainEntry j) ≡ drainChecked (ltb j (N .outs)) (someToken (s .queue (outputQueue N j)))
+unfolding answerTo drainChecked
 drain-is N s j = refl
 
-fire-is : (N : Net) (s : State) (r : ℕ) → answerTo N s (fireEntry r) ≡ two (ltb r (ruleCount N)) (ready N s (rule N r))
-unfolding answerTo two
+fire-is : (N : Net) (s : State) (r : ℕ) → answerTo N s (fireEntry r) ≡ drainChecked (ltb r (ruleCount N)) (ready N s (rule N r))
+unfolding answerTo drainChecked
 fire-is N s r = refl
 
 some-none : (xs : List ℕ) → (someToken xs ≡ false) ↔ (xs ≡ [])
