@@ -17,9 +17,9 @@ pub struct Played {
 }
 
 // What an entry gives: its answer, and the value where it is a drain that is done, else 0.
-struct Acted {
-    answer: u32,
-    value: u32,
+pub struct Acted {
+    pub answer: u32,
+    pub value: u32,
 }
 
 // 1 where a test holds.
@@ -77,7 +77,7 @@ fn store_if(wanted: bool, place: usize, value: u32, list: &mut [u32])
 }
 
 // Tries one entry: a feed, a drain or a fire by its kind; 12 for another.
-fn act_in<'x>(
+pub fn act_in<'x>(
     code: &'x [u8; 1024],
     width: &'x [u8; 1024],
     join: &'x [u8; 1024],
