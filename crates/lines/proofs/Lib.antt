@@ -1,3 +1,6 @@
 pub mod Bytes
 pub mod Spelling
+pub mod Digits
+pub mod Ways
+pub mod Meaning
 pub mod One

@@ -1,3 +1,4 @@
 pub mod Decimals
 pub mod Commands
 pub mod Answers
+pub mod Meaning
