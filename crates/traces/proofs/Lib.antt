@@ -1,3 +1,4 @@
 pub mod Playing
 pub mod Blocks
+pub mod Meaning
 pub mod One
