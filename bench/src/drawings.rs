@@ -58,7 +58,7 @@ pub fn sheets(nodes: usize, parts: usize, labelled: bool) -> Sheets {
         let from = first_of(p);
         let here = n - from;
         // an operand of the same part that has 16 bits: every fourth node may choose, so it stands at 3 modulo 4
-        let mut near = |numbers: &mut Numbers| loop {
+        let near = |numbers: &mut Numbers| loop {
             let k = from + here - 1 - numbers.below(here.min(12));
             if (k - from) % 8 != 7 {
                 break k as u16;

@@ -1,5 +1,5 @@
 // Measures the proved library against the twin: the same inputs, one process, the two in turn, the median of several runs, and ratios.
-// What it prints for its results is compared too, so that nothing is measured that is not the same work.
+// Where both give something it is compared, so that the same work is measured.
 
 mod drawings;
 
@@ -96,12 +96,16 @@ fn running(nodes: usize, parts: usize) {
     let (inputs, outputs) = (o.plan.inputs as u32, o.plan.outputs as u32);
     let boards::Opened { plan, network, .. } = &mut *o;
     let mut sums = (0u64, 0u64);
+    let mut numbers = Numbers(5);
+    let fed: Vec<u32> = (0..4096).map(|_| numbers.below(65_536) as u32).collect();
+    let (mut at, mut other) = (0, 0);
     // each turn: four tokens for every input, a run until nothing fires, and all outputs drained
     let pair = both(
         || {
-            for k in 0..4 {
+            for _ in 0..4 {
                 for i in 0..inputs {
-                    boards::feed(plan, network, i, k * 1000 + i);
+                    at = (at + 1) % fed.len();
+                    boards::feed(plan, network, i, fed[at]);
                 }
             }
             sums.0 = sums.0.wrapping_add(boards::run(plan, network, 65_535).firings as u64);
@@ -116,9 +120,10 @@ fn running(nodes: usize, parts: usize) {
             }
         },
         || {
-            for k in 0..4 {
+            for _ in 0..4 {
                 for i in 0..inputs {
-                    t.feed(i as usize, k * 1000 + i);
+                    other = (other + 1) % fed.len();
+                    t.feed(i as usize, fed[other]);
                 }
             }
             sums.1 = sums.1.wrapping_add(u64::from(t.run(65_535).2));
