@@ -12,6 +12,7 @@ mod entries;
 mod joins;
 
 // What a cut sheet says: a part number for each node, a depth for each queue, label bytes. A cut that was read has zeros past its counts.
+#[repr(C)]
 pub struct Cut {
     pub nodes: usize,
     pub part: [u8; 1024],

@@ -5,6 +5,7 @@ ghost use Rattle.cut.specs.Cuts.{noCut};
 ghost use Rattle.cut_sheet.specs.Reading.{cutRead};
 
 // What reading a cut sheet gives: on a refusal the cut and the queues are all zeros.
+#[repr(C)]
 pub struct CutRead {
     pub answer: u32,
     pub place: usize,

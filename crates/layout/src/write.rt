@@ -3,6 +3,7 @@ ghost use mathlib.Core.Path.{_≡_};
 ghost use Rattle.layout.specs.Write.{placed};
 
 // What writing a sheet gives: on a refusal the length is 0.
+#[repr(C)]
 pub struct Wrote {
     pub answer: u32,
     pub place: usize,

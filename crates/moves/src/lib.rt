@@ -6,12 +6,14 @@ ghost use lib.ListN.{getD};
 ghost use Rattle.moves.specs.Moves.{Fed, outputAt, Took, told};
 
 // What a drain gives.
+#[repr(C)]
 pub struct Drained {
     pub answer: u32,
     pub value: u32,
 }
 
 // What a question gives.
+#[repr(C)]
 pub struct Told {
     pub answer: u32,
     pub value: u32,

@@ -4,6 +4,7 @@ ghost use Rattle.netlist.specs.Netlists.{noNet};
 ghost use Rattle.net_sheet.specs.Reading.{netRead};
 
 // What reading a net sheet gives: on a refusal the netlist is all zeros.
+#[repr(C)]
 pub struct NetRead {
     pub answer: u32,
     pub place: usize,

@@ -10,6 +10,7 @@ ghost use Rattle.netlist.specs.Netlists.{noNet, recordIn, outputIn};
 ghost use Rattle.netlist.specs.Checks.{numbersGood, entryChecks, netChecks};
 
 // What a net sheet says. Node fields are one array each, and a netlist that was read has zeros past its counts.
+#[repr(C)]
 pub struct Netlist {
     pub nodes: usize,
     pub code: [u8; 1024],

@@ -5,6 +5,7 @@ ghost use Rattle.cut_sheet.specs.Reading.{readChecks};
 ghost use Rattle.opens.specs.Opening.{noPlan, noNetwork, freshNetwork, limitChecks, openedBy, planFrom, opened};
 
 // What opening gives: on a refusal the plan and the network are all zeros.
+#[repr(C)]
 pub struct Opened {
     pub answer: u32,
     pub place: usize,

@@ -9,6 +9,7 @@ ghost use Rattle.spots.specs.Stores.{netIn, planIn};
 ghost use Rattle.orders.specs.Orders.{entryOf, Acts, orderAnswer, refusedOrder, OrderPromise};
 
 // What an order gives: the counts of feeds, drains and firings done.
+#[repr(C)]
 pub struct Played {
     pub answer: u32,
     pub feeds: usize,

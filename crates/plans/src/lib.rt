@@ -9,6 +9,7 @@ ghost use Rattle.plans.specs.Plans.{tokenAt, readAt, spotOf, firstSpot, 
 
 // How many there are of each; the nodes' fields with where each operand is read (a node, 1,024 and its queue, or 1,536 for none); the queues' nodes, ends and
 // depths.
+#[repr(C)]
 pub struct Plan {
     pub limit: u32,
     pub nodes: usize,

@@ -13,6 +13,7 @@ mod maps;
 mod parts;
 
 // The queues of a cut, inputs first, then channels, then outputs, and where each node and operand finds its own.
+#[repr(C)]
 pub struct Queues {
     pub parts: usize,
     // how many queues there are, and how many of each kind

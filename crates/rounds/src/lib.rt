@@ -12,6 +12,7 @@ ghost use Rattle.rounds.specs.Fires.{putAlone, putLeft, putWould, noPuts
 ghost use Rattle.rounds.specs.Runs.{Rounded, Runs};
 
 // What a run gives.
+#[repr(C)]
 pub struct Ran {
     pub answer: u32,
     pub rounds: usize,

@@ -10,6 +10,7 @@ ghost use Rattle.spots.specs.Rounds.{noVals, noMets, firstPass, Left};
 
 // What rules change. The queue store has 16 places for each queue, its oldest token first and zeros behind its last; then how many tokens each queue holds,
 // each put rule's done flag by its queue, what each REG holds by its node, and each part's finished cycles.
+#[repr(C)]
 pub struct Network {
     pub cells: [u32; 8192],
     pub used: [u8; 512],
