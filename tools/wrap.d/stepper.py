@@ -2,28 +2,23 @@
 crate = 'stepper'
 lent = 'Rattle.base.proofs.Lent'
 homes = {'Netlist': 'netlist'}
-structs = {
-    'Netlist': [
-        ('nodes', 'usize'), ('code', '[u8; 1024]'), ('width', '[u8; 1024]'), ('a', '[u16; 1024]'), ('b', '[u16; 1024]'), ('c', '[u16; 1024]'), ('k', '[u32; 1024]'),
-        ('outputs', 'usize'), ('output', '[u16; 64]'), ('labels', 'usize'), ('label', '[u8; 4096]'),
-    ],
-}
+structs = {'Netlist': source('netlist', 'Netlist')}
 parts = 'netIn (net .nodes) (net .code) (net .width) (net .a) (net .b) (net .c) (net .k) (net .outputs) (net .output)'
 lists = [('net', f) for f in 'nodes code width a b c k outputs output'.split()]
 wrappers = [
     dict(
-        fn='first_registers', callee='first_by', params=[('net', '&', 'Netlist'), ('regs', '&mut', '[u32; 1024]')],
+        fn='cwazi_first_registers', callee='first_by', params=[('net', '&', 'Netlist'), ('regs', '&mut', '[u32; 1024]')],
         args=[('net', 'nodes'), ('net', 'code'), ('net', 'k'), 'regs'], result='()',
         uses='use Rattle.stepper.proofs.Whole.{FirstOf, first-whole}',
         said='FirstOf (net .nodes) (net .code) (net .k) z-regs', says='first-whole net z-regs e'),
     dict(
-        fn='steps', callee='steps_by',
+        fn='cwazi_steps', callee='steps_by',
         params=[('net', '&', 'Netlist'), ('regs', '&mut', '[u32; 1024]'), ('cycles', 'u32'), ('ins', '&[]', 'u32'), ('outs', '&mut []', 'u32')],
         args=lists + ['regs', 'cycles', 'ins', 'outs'], result='u32',
         uses='use Rattle.cycles.specs.Steps.{netIn, StepsPromise}\nuse Rattle.stepper.proofs.Whole.{steps-whole}',
         said=f'StepsPromise ({parts}) regs cycles ins outs r z-regs z-outs', says='steps-whole net regs cycles ins outs r z-regs z-outs e'),
     dict(
-        fn='step', callee='step_by',
+        fn='cwazi_step', callee='step_by',
         params=[('net', '&', 'Netlist'), ('regs', '&mut', '[u32; 1024]'), ('ins', '&[]', 'u32'), ('outs', '&mut []', 'u32')],
         args=lists + ['regs', 'ins', 'outs'], result='u32',
         uses='use Rattle.cycles.specs.Steps.{netIn, StepsPromise}\nuse Rattle.stepper.proofs.Whole.{steps-whole}',

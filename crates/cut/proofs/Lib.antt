@@ -3,3 +3,4 @@ pub mod Ends
 pub mod Answers
 pub mod Within
 pub mod Trims
+pub mod Shapes

@@ -10,3 +10,4 @@ pub mod One
 pub mod Sheets
 pub mod Called
 pub mod Drained
+pub mod Refusals

@@ -3,3 +3,4 @@ pub mod Totals
 pub mod Demands
 pub mod Sheets
 pub mod Calls
+pub mod Refusals

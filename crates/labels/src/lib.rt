@@ -5,6 +5,7 @@ ghost use Rattle.layout.specs.Trailer.{sectionsOf};
 ghost use Rattle.labels.specs.Spots.{sheetSpot, netEnd, firstFound, openSpot, spotOf, IsPart};
 
 // A part of one of the two sheets: whether it is the cut's, whether it is a label, its first byte, and its bytes.
+#[repr(C)]
 pub struct Spot {
     pub cut: bool,
     pub found: bool,
@@ -57,8 +58,8 @@ fn open_spot(net: &[u8], cut: &[u8], node: usize) -> Spot
     first_found(in_cut, first_found(in_net, net_end(net)))
 }
 
-// The label's spot in any two sheets.
-fn label_spot(net: &[u8], cut: &[u8], node: usize) -> Spot
+// The label's spot in any two sheets, for callers that cannot be handed a part of a sheet.
+pub fn label_spot(net: &[u8], cut: &[u8], node: usize) -> Spot
     ensures { λ r. ⌜ r ≡ spotOf (now (net .entry)) (now (cut .entry)) node ⌝ }
 {
     let got = net_sheet::read_net(net);

@@ -1,3 +1,2 @@
 pub mod Whole
 pub mod One
-pub mod Refusals

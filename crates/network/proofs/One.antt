@@ -11,20 +11,17 @@ use contract.Lifetimes.{Lfts}
 use denote.Ref.{now}
 use denote.Triple.Clauses.{AtExit}
 use denote.Triple.Entry.{Args, Res}
-use mathlib.Core.List.{List}
-use Prim.Native.Nat.{ℕ}
-use Rattle.base.specs.Promises.{OneLeft}
-use Rattle.spots.specs.declared.Network.{Network}
-use Rattle.network.specs.Calls.{FeedCall, DrainCall, FireCall, ReadyCall, RoundCall, RunCall, TokensCall, FinishedCall, OrderCall}
-use Rattle.network.proofs.feed as feed
-use Rattle.network.proofs.drain as drain
-use Rattle.network.proofs.fire as fire
-use Rattle.network.proofs.round as round
-use Rattle.network.proofs.run as run
-use Rattle.network.proofs.ready as ready
-use Rattle.network.proofs.tokens as tokens
-use Rattle.network.proofs.finished as finished
-use Rattle.network.proofs.order as order
+use Rattle.base.specs.Promises.{OneResult, OneLeft}
+use Rattle.network.specs.Calls.{FeedCall, DrainCall, TokensCall, FinishedCall}
+use Rattle.network.proofs.cwazi_open.Kinds as open-kinds
+use Rattle.network.proofs.cwazi_open.Reads as open-reads
+use Rattle.network.proofs.cwazi_feed as feed
+use Rattle.network.proofs.cwazi_drain as drain
+use Rattle.network.proofs.cwazi_tokens as tokens
+use Rattle.network.proofs.cwazi_finished as finished
+
+pub cwazi-open-one : OneResult 2 open-kinds.ps open-kinds.r open-reads.Post
+cwazi-open-one κs a r r′ x x′ p q = p ∙ sym q
 
 -- what each `ensures` says of the arguments, the result and what is left
 abbrev feedSays : (κs : Lfts 2) → Args feed.signature κs → Res feed.signature κs → AtExit feed.ended κs → Type 0
@@ -33,27 +30,11 @@ feedSays κs a r x = FeedCall (now (a .0)) (now (a .1 .0)) (a .1 .1 .0) (a .1 .1
 abbrev drainSays : (κs : Lfts 2) → Args drain.signature κs → Res drain.signature κs → AtExit drain.ended κs → Type 0
 drainSays κs a r x = DrainCall (now (a .0)) (now (a .1 .0)) (a .1 .1 .0) r (now (x .1 .0))
 
-abbrev fireSays : (κs : Lfts 2) → Args fire.signature κs → Res fire.signature κs → AtExit fire.ended κs → Type 0
-fireSays κs a r x = FireCall (now (a .0)) (now (a .1 .0)) (a .1 .1 .0) r (now (x .1 .0))
-
-abbrev roundSays : (κs : Lfts 2) → Args round.signature κs → Res round.signature κs → AtExit round.ended κs → Type 0
-roundSays κs a r x = RoundCall (now (a .0)) (now (a .1 .0)) r (now (x .1 .0))
-
-abbrev runSays : (κs : Lfts 2) → Args run.signature κs → Res run.signature κs → AtExit run.ended κs → Type 0
-runSays κs a r x = RunCall (now (a .0)) (now (a .1 .0)) (a .1 .1 .0) r (now (x .1 .0))
-
-abbrev readySays : (κs : Lfts 2) → Args ready.signature κs → Res ready.signature κs → AtExit ready.ended κs → Type 0
-readySays κs a r x = ReadyCall (now (a .0)) (now (a .1 .0)) (a .1 .1 .0) r
-
 abbrev tokensSays : (κs : Lfts 2) → Args tokens.signature κs → Res tokens.signature κs → AtExit tokens.ended κs → Type 0
 tokensSays κs a r x = TokensCall (now (a .0)) (now (a .1 .0)) (a .1 .1 .0) r
 
 abbrev finishedSays : (κs : Lfts 2) → Args finished.signature κs → Res finished.signature κs → AtExit finished.ended κs → Type 0
 finishedSays κs a r x = FinishedCall (now (a .0)) (now (a .1 .0)) (a .1 .1 .0) r
-
-abbrev orderSays : (κs : Lfts 6) → Args order.signature κs → Res order.signature κs → AtExit order.ended κs → Type 0
-orderSays κs a r x =
-    OrderCall (now (a .0)) (now (a .1 .0)) (now (a .1 .1 .0)) (now (a .1 .1 .1 .0)) (now (a .1 .1 .1 .1 .0)) (now (a .1 .1 .1 .1 .1 .0)) r (now (x .1 .0)) (now (x .1 .1 .1 .1 .1 .0))
 
 module _ {M : Type 1} (𝓤 : URA M) (H : Heap 𝓤) (A : Atoms 𝓤) (mem : Memory → SProp 𝓤) (runs : Routine → Fun 𝓤) where
   pub feed-says : (κs : Lfts 2) (a : Args feed.signature κs) (r : Res feed.signature κs) (x : AtExit feed.ended κs) → feed.clauses 𝓤 H A mem runs κs a .ensures tt r x ≡ fact 𝓤 (feedSays κs a r x)
@@ -62,51 +43,20 @@ module _ {M : Type 1} (𝓤 : URA M) (H : Heap 𝓤) (A : Atoms 𝓤) (mem : Mem
   pub drain-says : (κs : Lfts 2) (a : Args drain.signature κs) (r : Res drain.signature κs) (x : AtExit drain.ended κs) → drain.clauses 𝓤 H A mem runs κs a .ensures tt r x ≡ fact 𝓤 (drainSays κs a r x)
   drain-says κs a r x = refl
 
-  pub fire-says : (κs : Lfts 2) (a : Args fire.signature κs) (r : Res fire.signature κs) (x : AtExit fire.ended κs) → fire.clauses 𝓤 H A mem runs κs a .ensures tt r x ≡ fact 𝓤 (fireSays κs a r x)
-  fire-says κs a r x = refl
-
-  pub round-says : (κs : Lfts 2) (a : Args round.signature κs) (r : Res round.signature κs) (x : AtExit round.ended κs) → round.clauses 𝓤 H A mem runs κs a .ensures tt r x ≡ fact 𝓤 (roundSays κs a r x)
-  round-says κs a r x = refl
-
-  pub run-says : (κs : Lfts 2) (a : Args run.signature κs) (r : Res run.signature κs) (x : AtExit run.ended κs) → run.clauses 𝓤 H A mem runs κs a .ensures tt r x ≡ fact 𝓤 (runSays κs a r x)
-  run-says κs a r x = refl
-
-  pub ready-says : (κs : Lfts 2) (a : Args ready.signature κs) (r : Res ready.signature κs) (x : AtExit ready.ended κs) → ready.clauses 𝓤 H A mem runs κs a .ensures tt r x ≡ fact 𝓤 (readySays κs a r x)
-  ready-says κs a r x = refl
-
   pub tokens-says : (κs : Lfts 2) (a : Args tokens.signature κs) (r : Res tokens.signature κs) (x : AtExit tokens.ended κs) → tokens.clauses 𝓤 H A mem runs κs a .ensures tt r x ≡ fact 𝓤 (tokensSays κs a r x)
   tokens-says κs a r x = refl
 
   pub finished-says : (κs : Lfts 2) (a : Args finished.signature κs) (r : Res finished.signature κs) (x : AtExit finished.ended κs) → finished.clauses 𝓤 H A mem runs κs a .ensures tt r x ≡ fact 𝓤 (finishedSays κs a r x)
   finished-says κs a r x = refl
 
-  pub order-says : (κs : Lfts 6) (a : Args order.signature κs) (r : Res order.signature κs) (x : AtExit order.ended κs) → order.clauses 𝓤 H A mem runs κs a .ensures tt r x ≡ fact 𝓤 (orderSays κs a r x)
-  order-says κs a r x = refl
+pub cwazi-feed-one : OneLeft feed.ended feedSays (λ κs x. now (x .1 .0))
+cwazi-feed-one κs a r r′ x x′ p q = (p .0 ∙ sym (q .0), p .1 ∙ sym (q .1))
 
-pub feed-one : OneLeft feed.ended feedSays (λ κs x. now (x .1 .0))
-feed-one κs a r r′ x x′ p q = (p .0 ∙ sym (q .0), p .1 ∙ sym (q .1))
+pub cwazi-drain-one : OneLeft drain.ended drainSays (λ κs x. now (x .1 .0))
+cwazi-drain-one κs a r r′ x x′ p q = (p .0 ∙ sym (q .0), p .1 ∙ sym (q .1))
 
-pub drain-one : OneLeft drain.ended drainSays (λ κs x. now (x .1 .0))
-drain-one κs a r r′ x x′ p q = (p .0 ∙ sym (q .0), p .1 ∙ sym (q .1))
+pub cwazi-tokens-one : OneLeft {A = Unit} tokens.ended tokensSays (λ κs x. tt)
+cwazi-tokens-one κs a r r′ x x′ p q = (p .0 ∙ sym (q .0), refl)
 
-pub fire-one : OneLeft fire.ended fireSays (λ κs x. now (x .1 .0))
-fire-one κs a r r′ x x′ p q = (p .0 ∙ sym (q .0), p .1 ∙ sym (q .1))
-
-pub round-one : OneLeft round.ended roundSays (λ κs x. now (x .1 .0))
-round-one κs a r r′ x x′ p q = (p .0 ∙ sym (q .0), p .1 ∙ sym (q .1))
-
-pub run-one : OneLeft run.ended runSays (λ κs x. now (x .1 .0))
-run-one κs a r r′ x x′ p q = (p .0 .0 ∙ sym (q .0 .0), p .0 .1 ∙ sym (q .0 .1))
-
-pub ready-one : OneLeft {A = Unit} ready.ended readySays (λ κs x. tt)
-ready-one κs a r r′ x x′ p q = (p .0 ∙ sym (q .0), refl)
-
-pub tokens-one : OneLeft {A = Unit} tokens.ended tokensSays (λ κs x. tt)
-tokens-one κs a r r′ x x′ p q = (p .0 ∙ sym (q .0), refl)
-
-pub finished-one : OneLeft {A = Unit} finished.ended finishedSays (λ κs x. tt)
-finished-one κs a r r′ x x′ p q = (p .0 ∙ sym (q .0), refl)
-
--- the network and the lent list
-pub order-one : OneLeft {A = Network × List ℕ} order.ended orderSays (λ κs x. (now (x .1 .0), now (x .1 .1 .1 .1 .1 .0)))
-order-one κs a r r′ x x′ p q = (p .0 .0 ∙ sym (q .0 .0), λ i. ((p .0 .1 ∙ sym (q .0 .1)) i, (p .0 .2 ∙ sym (q .0 .2)) i))
+pub cwazi-finished-one : OneLeft {A = Unit} finished.ended finishedSays (λ κs x. tt)
+cwazi-finished-one κs a r r′ x x′ p q = (p .0 ∙ sym (q .0), refl)

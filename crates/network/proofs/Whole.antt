@@ -1,33 +1,21 @@
 -- From the promise on lent arrays to that of a whole plan and network: the fields that are not lent stay, and a network that earlier calls gave is where the
 -- definitions on arrays mean the outline's words.
-use mathlib.Core.Path.{_≡_, refl, sym, _∙_, ap, ap₂}
+use mathlib.Core.Path.{_≡_, refl, _∙_, ap, ap₂}
 use mathlib.Core.Bool.{Bool, true, false, cond}
 use mathlib.Core.List.{List}
 use Prim.Native.Nat.{ℕ}
-use lib.Dec.{eqb, ltb}
-use lib.ListN.{length}
+use lib.Dec.{eqb}
 use Rattle.lanes.specs.Lanes.{pushCells, pushUsed, takeCells, takeUsed}
-use Rattle.nets.specs.Rounds.{run}
 use Rattle.plans.specs.declared.Plan.{Plan}
 use Rattle.spots.specs.declared.Network.{Network}
-use Rattle.spots.specs.Stores.{netIn, storeOf, Given, netOf}
+use Rattle.spots.specs.Stores.{netIn}
 use Rattle.moves.specs.declared.Drained.{Drained}
 use Rattle.moves.specs.declared.Told.{Told}
-use Rattle.moves.specs.Moves.{feedAnswer, feedLeft, Fed, outputAt, outputOn, drainOn, drainLeft, Took, tokensOn, finishedOn}
+use Rattle.moves.specs.Moves.{feedLeft, Fed, outputAt, outputOn, drainLeft, Took, tokensOn, finishedOn}
 use Rattle.moves.proofs.Feeding.{feed-means}
 use Rattle.moves.proofs.Draining.{drain-means}
 use Rattle.moves.proofs.Telling.{tokens-means, finished-means}
-use Rattle.rounds.specs.declared.Ran.{Ran}
-use Rattle.rounds.specs.Fires.{fireAnswer, Fired}
-use Rattle.rounds.specs.Runs.{RunOn, Rounded, ranOf, tooMany, runOn, Runs}
-use Rattle.rounds.proofs.Firing.{fire-means}
-use Rattle.rounds.proofs.Playing.{round-means, run-means}
-use Rattle.nets.specs.Orders.{entryAt}
-use Rattle.orders.specs.declared.Played.{Played}
-use Rattle.orders.specs.Orders.{PlayedOn, orderOn, orderAnswer, refusedOrder, playedOf, OrderPromise}
-use Rattle.orders.proofs.Turns.{drains-fit}
-use Rattle.orders.proofs.Ordering.{order-means}
-use Rattle.network.specs.Calls.{OrderCall, FeedCall, DrainCall, FireCall, ReadyCall, RoundCall, RunCall, TokensCall, FinishedCall}
+use Rattle.network.specs.Calls.{FeedCall, DrainCall, TokensCall, FinishedCall}
 
 -- two arrays that change under one test, in the whole network
 by-test : (b : Bool) (x c y u : List ℕ) (f : List Bool) (h k : List ℕ) → netIn (cond b x c) (cond b y u) f h k ≡ cond b (netIn x y f h k) (netIn c u f h k)
@@ -55,41 +43,8 @@ drain-whole P L j r cells used e =
     ∙ ap (λ a. cond (eqb (a .answer) 0) (netIn (takeCells (L .cells) q) (takeUsed (L .used) q) (L .flag) (L .held) (L .count)) L) (e .0) in
     (e .0, m, λ G. let t = drain-means P L G j in (ap (λ a. a .answer) (e .0) ∙ t .answer-is, ap (λ a. a .value) (e .0) ∙ t .value-is, m ∙ t .left-is))
 
-pub fire-whole : (P : Plan) (L : Network) (k r : ℕ) (M : Network) → Fired P L k r M → FireCall P L k r M
-fire-whole P L k r M e = (e .0, e .1, λ G. let t = fire-means P L G k in (e .0 ∙ t .0, e .1 ∙ t .1))
-
-pub ready-whole : (P : Plan) (L : Network) (k r : ℕ) → r ≡ fireAnswer P L k → ReadyCall P L k r
-ready-whole P L k r e = (e, λ G. e ∙ fire-means P L G k .0)
-
-pub round-whole : (P : Plan) (L : Network) (r : ℕ) (M : Network) → Rounded P L r M → RoundCall P L r M
-round-whole P L r M e = (e .0, e .1, λ G. let t = round-means P L G in (e .0 ∙ t .0, e .1 ∙ t .1))
-
-pub run-whole : (P : Plan) (L : Network) (k : ℕ) (r : Ran) (M : Network) → Runs P L k r M → RunCall P L k r M
-run-whole P L k r M e = (
-  e,
-  λ G. let t = run-means P L G k in (
-    e .0 ∙ ap₂ (λ d f. cond (ltb 65535 k) tooMany (record { answer = 0; rounds = d; firings = f })) (t .rounds-are) (t .firings-are),
-    e .1 ∙ ap (cond (ltb 65535 k) L) (t .left-is),
-  ),
-)
-
 pub tokens-whole : (P : Plan) (L : Network) (q : ℕ) (r : Told) → r ≡ tokensOn P L q → TokensCall P L q r
 tokens-whole P L q r e = (e, λ G. e ∙ tokens-means P L G q)
 
 pub finished-whole : (P : Plan) (L : Network) (p : ℕ) (r : Told) → r ≡ finishedOn P L p → FinishedCall P L p r
 finished-whole P L p r e = (e, λ G. e ∙ finished-means P L G p)
-
-pub order-whole : (P : Plan) (L : Network) (kinds indexes values lent : List ℕ) (r : Played) (M : Network) (lent′ : List ℕ) → OrderPromise P L kinds indexes values lent r M lent′
-    → OrderCall P L kinds indexes values lent r M lent′
-order-whole P L kinds indexes values lent r M lent′ e = (
-  e,
-  λ G z.
-      let a : ℕ = orderAnswer kinds indexes values (length lent) in
-      let t = order-means P L G (entryAt kinds indexes values) lent (length kinds) in
-      let o : PlayedOn = orderOn P L (entryAt kinds indexes values) lent (length kinds) in
-      let b : eqb a 0 ≡ true = ap (λ x. eqb x 0) z in (
-        e .0 ∙ ap (λ x. cond x (playedOf o) (refusedOrder a)) b ∙ (λ i. record { answer = 0; feeds = t .feeds-are i; drains = t .drains-are i; firings = t .firings-are i }),
-        e .1 ∙ ap (λ x. cond x (o .network) L) b ∙ t .left-is,
-        e .2 ∙ ap (λ x. cond x (o .lent) lent) b ∙ t .lent-is (drains-fit kinds indexes values (length lent) z),
-      ),
-)

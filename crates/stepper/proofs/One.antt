@@ -17,9 +17,9 @@ use Rattle.base.specs.Promises.{OneLeft}
 use Rattle.netlist.specs.Checks.{netChecks}
 use Rattle.cycles.specs.Steps.{firstRegisters, Registers, StepsPromise}
 use Rattle.cycles.proofs.Streams.{one-result}
-use Rattle.stepper.proofs.first_registers as first
-use Rattle.stepper.proofs.steps as many
-use Rattle.stepper.proofs.step as once
+use Rattle.stepper.proofs.cwazi_first_registers as first
+use Rattle.stepper.proofs.cwazi_steps as many
+use Rattle.stepper.proofs.cwazi_step as once
 
 -- what each `ensures` says of the arguments, the result and what is left
 abbrev FirstSays : (κs : Lfts 2) → Args first.signature κs → Res first.signature κs → AtExit first.ended κs → Type 0
@@ -41,16 +41,16 @@ module _ {M : Type 1} (𝓤 : URA M) (H : Heap 𝓤) (A : Atoms 𝓤) (mem : Mem
   pub step-says : (κs : Lfts 4) (a : Args once.signature κs) (r : Res once.signature κs) (x : AtExit once.ended κs) → once.clauses 𝓤 H A mem run κs a .ensures tt r x ≡ fact 𝓤 (StepSays κs a r x)
   step-says κs a r x = refl
 
-pub first-registers-one : OneLeft first.ended FirstSays (λ κs x. now (x .1 .0))
-first-registers-one κs a r r′ x x′ p q = (refl, p ∙ sym q)
+pub cwazi-first-registers-one : OneLeft first.ended FirstSays (λ κs x. now (x .1 .0))
+cwazi-first-registers-one κs a r r′ x x′ p q = (refl, p ∙ sym q)
 
 -- for a netlist that passes the checks, and registers of it
-pub steps-one : (κs : Lfts 4) (a : Args many.signature κs) (r r′ : Res many.signature κs) (x x′ : AtExit many.ended κs) → AllGood (netChecks (now (a .0))) → Registers (now (a .0)) (now (a .1 .0)) → StepsSay κs a r x → StepsSay κs a r′ x′
+pub cwazi-steps-one : (κs : Lfts 4) (a : Args many.signature κs) (r r′ : Res many.signature κs) (x x′ : AtExit many.ended κs) → AllGood (netChecks (now (a .0))) → Registers (now (a .0)) (now (a .1 .0)) → StepsSay κs a r x → StepsSay κs a r′ x′
     → (r ≡ r′) × (now (x .1 .0) ≡ now (x′ .1 .0)) × (now (x .1 .1 .1 .1 .0) ≡ now (x′ .1 .1 .1 .1 .0))
-steps-one κs a r r′ x x′ g rg p q =
+cwazi-steps-one κs a r r′ x x′ g rg p q =
     one-result (now (a .0)) g (now (a .1 .0)) (a .1 .1 .0) (now (a .1 .1 .1 .0)) (now (a .1 .1 .1 .1 .0)) r r′ _ _ _ _ (p g rg) (q g rg)
 
-pub step-one : (κs : Lfts 4) (a : Args once.signature κs) (r r′ : Res once.signature κs) (x x′ : AtExit once.ended κs) → AllGood (netChecks (now (a .0))) → Registers (now (a .0)) (now (a .1 .0)) → StepSays κs a r x → StepSays κs a r′ x′
+pub cwazi-step-one : (κs : Lfts 4) (a : Args once.signature κs) (r r′ : Res once.signature κs) (x x′ : AtExit once.ended κs) → AllGood (netChecks (now (a .0))) → Registers (now (a .0)) (now (a .1 .0)) → StepSays κs a r x → StepSays κs a r′ x′
     → (r ≡ r′) × (now (x .1 .0) ≡ now (x′ .1 .0)) × (now (x .1 .1 .1 .0) ≡ now (x′ .1 .1 .1 .0))
-step-one κs a r r′ x x′ g rg p q =
+cwazi-step-one κs a r r′ x x′ g rg p q =
     one-result (now (a .0)) g (now (a .1 .0)) 1 (now (a .1 .1 .0)) (now (a .1 .1 .1 .0)) r r′ _ _ _ _ (p g rg) (q g rg)

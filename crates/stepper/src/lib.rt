@@ -1,4 +1,4 @@
-// The plain stepper on a lent netlist, which is not copied: its first registers, and its cycles.
+// The public calls of the plain stepper: a drawing's first registers, and its cycles. The netlist is lent and not copied.
 ghost use mathlib.Core.Path.{_≡_};
 ghost use mathlib.Core.Bool.{cond};
 ghost use lib.ListN.{getD, replicate};
@@ -80,14 +80,16 @@ fn step_by<'x>(
 }
 
 // The registers of a netlist before its first cycle: k at a REG, 0 elsewhere.
-pub fn first_registers(net: &netlist::Netlist, regs: &mut [u32; 1024])
+#[no_mangle]
+pub extern "C" fn cwazi_first_registers(net: &netlist::Netlist, regs: &mut [u32; 1024])
     ensures { λ _. ⌜ now (regs .exit) ≡ firstRegisters (now (net .entry)) ⌝ }
 {
     first_by(&net.nodes, &net.code, &net.k, regs)
 }
 
 // Many cycles: the inputs are so many times the INs, the outputs so many times the outputs. Refused by 12, 13 and 16, before the first cycle.
-pub fn steps(
+#[no_mangle]
+pub extern "C" fn cwazi_steps(
     net: &netlist::Netlist,
     regs: &mut [u32; 1024],
     cycles: u32,
@@ -113,8 +115,14 @@ pub fn steps(
     )
 }
 
-// One cycle.
-pub fn step(net: &netlist::Netlist, regs: &mut [u32; 1024], ins: &[u32], outs: &mut [u32]) -> u32
+// One cycle: refused by 12, 13 and 16, with registers and outputs as they were.
+#[no_mangle]
+pub extern "C" fn cwazi_step(
+    net: &netlist::Netlist,
+    regs: &mut [u32; 1024],
+    ins: &[u32],
+    outs: &mut [u32],
+) -> u32
     ensures { λ r. ⌜ StepsPromise (now (net .entry)) (now (regs .entry)) 1 (now (ins .entry)) (now (outs .entry)) r (now (regs .exit)) (now (outs .exit)) ⌝ }
 {
     step_by(
