@@ -86,7 +86,7 @@ pub fn compare(seed: u64, case: u64, tally: &mut Tally) -> Same {
         sheets::labels(chance, tally, &net, &cut, nodes)?;
     }
     let limit = networks::limit(chance);
-    networks::compare(chance, tally, &net, &cut, limit, &read)?;
+    networks::compare(chance, tally, &net, &cut, limit, &read, true)?;
     if let Ok(net) = &read.net {
         steps::compare(chance, tally, net)?;
     }

@@ -33,7 +33,16 @@ pub fn limit(chance: &mut Chance) -> u32 {
     }
 }
 
-pub fn compare(chance: &mut Chance, tally: &mut Tally, net_sheet: &[u8], cut_sheet: &[u8], limit: u32, read: &Read) -> Same {
+/// Opens both; and, with a session, calls both for a while.
+pub fn compare(
+    chance: &mut Chance,
+    tally: &mut Tally,
+    net_sheet: &[u8],
+    cut_sheet: &[u8],
+    limit: u32,
+    read: &Read,
+    session: bool,
+) -> Same {
     let opened = boards::open(net_sheet, cut_sheet, limit);
     let twin = twin::Network::open(net_sheet, cut_sheet, limit as u64);
     let refusal = twin.as_ref().err().map_or((0, 0), |r| (r.answer, r.place));
@@ -73,6 +82,9 @@ pub fn compare(chance: &mut Chance, tally: &mut Tally, net_sheet: &[u8], cut_she
         firings: 0,
     };
     both.after(0, "open")?;
+    if !session {
+        return Ok(());
+    }
     for _ in 0..both.chance.from_to(4, if net.nodes < 100 { 60 } else { 20 }) {
         both.call()?;
     }

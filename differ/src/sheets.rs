@@ -215,7 +215,7 @@ pub fn write_by_hand(chance: &mut Chance, tally: &mut Tally, good: &Pair, bent: 
 }
 
 /// The label of a node: the spot, and the part of the sheet.
-fn label(tally: &mut Tally, net: &[u8], cut: &[u8], node: usize) -> Same {
+pub fn label(tally: &mut Tally, net: &[u8], cut: &[u8], node: usize) -> Same {
     let spot = boards::label_spot(net, cut, node);
     let found = twin::label_place(net, cut, node);
     let in_cut = found.sheet == Sheet::Cut;
