@@ -33,7 +33,7 @@ pub fn limit(chance: &mut Chance) -> u32 {
     }
 }
 
-/// Opens both; and, with a session, calls both for a while.
+/// Opens both; and, with calls, makes some of both.
 pub fn compare(
     chance: &mut Chance,
     tally: &mut Tally,
@@ -41,7 +41,7 @@ pub fn compare(
     cut_sheet: &[u8],
     limit: u32,
     read: &Read,
-    session: bool,
+    with_calls: bool,
 ) -> Same {
     let opened = boards::open(net_sheet, cut_sheet, limit);
     let twin = twin::Network::open(net_sheet, cut_sheet, limit as u64);
@@ -82,7 +82,7 @@ pub fn compare(
         firings: 0,
     };
     both.after(0, "open")?;
-    if !session {
+    if !with_calls {
         return Ok(());
     }
     for _ in 0..both.chance.from_to(4, if net.nodes < 100 { 60 } else { 20 }) {

@@ -33,16 +33,16 @@ fn compare(input: &[u8]) -> Same {
         let node = chance.below(nodes + 1);
         sheets::label(tally, net, cut, node)?;
     }
-    // Sessions of calls are the differential test's own; here a few of them, so that most of the time goes to sheets.
+    // Calls on networks are the differential test's own; here few inputs have them, so that most of the time goes to sheets.
     let limit = networks::limit(chance);
-    networks::compare(chance, tally, net, cut, limit, &read, chance_of_a_session(input))?;
+    networks::compare(chance, tally, net, cut, limit, &read, has_calls(input))?;
     if let (Ok(net), true) = (&read.net, chance.one_in(16)) {
         steps::compare(chance, tally, net)?;
     }
     Ok(())
 }
 
-fn chance_of_a_session(input: &[u8]) -> bool {
+fn has_calls(input: &[u8]) -> bool {
     digest(input) % 16 == 0
 }
 
