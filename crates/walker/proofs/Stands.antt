@@ -1,6 +1,6 @@
 -- The cases of the definitions: a record whose bytes are there or not, and the count of records from the sections that were found.
 use mathlib.Core.Path.{_≡_, sym, _∙_, ap}
-use mathlib.Core.Bool.{true, false, cond, _&&_}
+use mathlib.Core.Bool.{Bool, true, false, cond, _&&_}
 use mathlib.Core.List.{List}
 use Prim.Native.Nat.{ℕ, _+_, _*_, _/_, _≤_, _<_}
 use native.Mathlib.Omega.{arith}
@@ -30,14 +30,17 @@ pub count-short : (s : List ℕ) → length s < 16 → recordCount s ≡ 0
 unfolding recordCount
 count-short s h = ap (λ b. cond (b && netTrailerGood s) (frontBytes s / 12) 0) (lt-leb 16 (length s) h)
 
-pub count-bad : (s : List ℕ) → 16 ≤ length s → netTrailerGood s ≡ false → recordCount s ≡ 0
+-- where the sheet has 16 bytes the trailer decides
+decided : (s : List ℕ) (b : Bool) → 16 ≤ length s → netTrailerGood s ≡ b → recordCount s ≡ cond b (frontBytes s / 12) 0
 unfolding recordCount
-count-bad s h e =
-    ap (λ b. cond (b && netTrailerGood s) (frontBytes s / 12) 0) (le-leb 16 (length s) h) ∙ ap (λ b. cond b (frontBytes s / 12) 0) e
+decided s b h e =
+    ap (λ x. cond (x && netTrailerGood s) (frontBytes s / 12) 0) (le-leb 16 (length s) h) ∙ ap (λ x. cond x (frontBytes s / 12) 0) e
 
-pub count-good : (s : List ℕ) (t : Sections) → Passed s t → recordCount s ≡ t .front / 12
-unfolding recordCount
-count-good s t p =
-    ap (λ b. cond (b && netTrailerGood s) (frontBytes s / 12) 0) (le-leb 16 (length s) (p .found-it .long))
-    ∙ ap (λ b. cond b (frontBytes s / 12) 0) (p .good)
-    ∙ ap (λ (x : Sections). x .front / 12) (sym (p .is))
+pub count-bad : (s : List ℕ) → 16 ≤ length s → netTrailerGood s ≡ false → recordCount s ≡ 0
+count-bad s h e = decided s false h e
+
+pub count-good : (s : List ℕ) → 16 ≤ length s → netTrailerGood s ≡ true → recordCount s ≡ frontBytes s / 12
+count-good s h e = decided s true h e
+
+pub count-found : (s : List ℕ) (t : Sections) → Passed s t → recordCount s ≡ t .front / 12
+count-found s t p = count-good s (p .found-it .long) (p .good) ∙ ap (λ (x : Sections). x .front / 12) (sym (p .is))

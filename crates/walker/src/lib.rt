@@ -97,11 +97,11 @@ pub fn left<'a>(w: Walker<'a>) -> usize
 }
 
 // The record that a walker stands at after so many steps from record 0. Its parameters are plain, so that a caller needs no walk.
-pub fn walked(sheet: &[u8], number: usize) -> codes::Record
-    ensures { λ r. ⌜ r ≡ standsAt (now (sheet .entry)) number ⌝ }
+pub fn walked(sheet: &[u8], steps: usize) -> codes::Record
+    ensures { λ r. ⌜ r ≡ standsAt (now (sheet .entry)) steps ⌝ }
 {
     let mut w = walk(sheet);
-    while w.number < number {
+    while w.number < steps {
         w = next(w);
     }
     record(w)

@@ -6,7 +6,7 @@ use borrow.Author.Needs.{needs}
 use denote.Ref.{now}
 use Rattle.net_sheet.proofs.Trailers.{passed, failed}
 use Rattle.walker.specs.Walking.{recordCount}
-use Rattle.walker.proofs.Stands.{count-short, count-bad, count-good}
+use Rattle.walker.proofs.Stands.{count-short, count-bad, count-found}
 use Rattle.walker.proofs.records_left.Statement.{statement}
 use Rattle.walker.proofs.records_left.Tie as tie
 
@@ -26,14 +26,14 @@ returns-2 : tie.Need-returns-2
 returns-2 c =
     let s = now (c .before .before .before .before .before .before .before .before .before .args .sheet) in
     let t = c .before .before .before .before .before .before .find-sections in
-    let e = count-good s (t .result) (passed s (t .result) (t .ensures) (c .before .before .if2 .taken)) in
+    let e = count-found s (t .result) (passed s (t .result) (t .ensures) (c .before .before .if2 .taken)) in
     rw e refl
 
 returns-3 : tie.Need-returns-3
 returns-3 c =
     let s = now (c .before .before .before .before .before .before .before .before .before .args .sheet) in
     let t = c .before .before .before .before .before .before .find-sections in
-    let e = count-good s (t .result) (passed s (t .result) (t .ensures) (c .before .before .if2 .taken)) in
+    let e = count-found s (t .result) (passed s (t .result) (t .ensures) (c .before .before .if2 .taken)) in
     rw e (omega (arith, c .if3 .left))
 
 returns-4 : tie.Need-returns-4
