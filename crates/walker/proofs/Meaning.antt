@@ -10,7 +10,6 @@ use Rattle.base.specs.Lists.{fill}
 use Rattle.base.proofs.Tests.{and-right}
 use Rattle.base.proofs.Fill.{fill-at}
 use Rattle.base.proofs.Verdicts.{whole-good}
-use Rattle.codes.specs.declared.Record.{Record}
 use Rattle.layout.specs.Trailer.{frontBytes, middleBytes, labelBytes, trailerAt}
 use Rattle.layout.proofs.Found.{fills}
 use Rattle.netlist.specs.declared.Netlist.{Netlist}

@@ -5,12 +5,10 @@ use mathlib.Core.List.{List}
 use Prim.Native.Nat.{ℕ, _+_, _*_, _/_, _≤_, _<_}
 use native.Mathlib.Omega.{arith}
 use borrow.Author.Tests.{le-leb, lt-leb}
-use lib.Dec.{leb}
 use lib.ListN.{length}
-use Rattle.codes.specs.declared.Record.{Record}
 use Rattle.layout.specs.declared.trailer.Sections.{Sections}
 use Rattle.layout.specs.Trailer.{frontBytes}
-use Rattle.net_sheet.specs.Reading.{recordAt, longEnough, netTrailerGood}
+use Rattle.net_sheet.specs.Reading.{recordAt, netTrailerGood}
 use Rattle.net_sheet.proofs.Trailers.{Passed}
 use Rattle.walker.specs.Walking.{noRecord, standsAt, recordCount}
 
