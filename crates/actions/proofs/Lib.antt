@@ -1,0 +1,4 @@
+pub mod Counting
+pub mod Playing
+pub mod Again
+pub mod One
