@@ -200,6 +200,13 @@ typedef struct cwazi_played {
     size_t firings;
 } cwazi_played;
 
+/* An action of an order; only a feed's value counts. */
+typedef struct cwazi_action {
+    uint32_t kind;
+    uint32_t index;
+    uint32_t value;
+} cwazi_action;
+
 /* Reads a net sheet: 0 to 6. */
 cwazi_net_read cwazi_read_net(const uint8_t *sheet, size_t sheet_length);
 
@@ -259,6 +266,10 @@ cwazi_ran cwazi_run(const cwazi_plan *plan, cwazi_network *network, uint32_t rou
  * values go to the lent list from its start: 0; 12 where the lists are of unequal length; 16 where it has more drains than places. */
 cwazi_played cwazi_order(const cwazi_plan *plan, cwazi_network *network, const uint32_t *kinds, size_t kinds_length, const uint32_t *indexes,
                          size_t indexes_length, const uint32_t *values, size_t values_length, uint32_t *drained, size_t drained_length);
+
+/* The same order as one list of actions: 0, or 16 where it has more drains than places. */
+cwazi_played cwazi_actions(const cwazi_plan *plan, cwazi_network *network, const cwazi_action *actions, size_t actions_length, uint32_t *drained,
+                           size_t drained_length);
 
 #ifdef __cplusplus
 }

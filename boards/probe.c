@@ -330,9 +330,12 @@ static void networks(void) {
     cwazi_network *n;
     cwazi_ran ran;
     cwazi_played played;
+    cwazi_action actions[4];
+    cwazi_network *other = malloc(sizeof *other);
     cwazi_drained d;
+    uint32_t first;
     size_t q, t, p, fired;
-    if (o == NULL) exit(2);
+    if (o == NULL || other == NULL) exit(2);
     memset(o, 0xA5, sizeof *o);
     cut_sheet[31] = 32;
     *o = cwazi_open(net_sheet, net_length, cut_sheet, cut_length, plan.limit);
@@ -443,6 +446,7 @@ static void networks(void) {
     kinds[3] = CWAZI_FEED, indexes[3] = (uint32_t)t, values[3] = 1;
     drained[0] = drained[1] = 7;
     ONE("tokens of the last output", cwazi_tokens(&o->plan, n, 511).value > 0, 1);
+    *other = *n;
     played = cwazi_order(&o->plan, n, kinds, 4, indexes, 4, values, 4, drained, 2);
     ONE("played.answer", played.answer, 0);
     ONE("played.feeds", played.feeds, 2);
@@ -453,6 +457,21 @@ static void networks(void) {
     ONE("played.answer of too few places", played.answer, CWAZI_TOO_SHORT);
     played = cwazi_order(&o->plan, n, kinds, 4, indexes, 3, values, 4, drained, 2);
     ONE("played.answer of unequal lists", played.answer, CWAZI_NO_SUCH);
+    /* The same as one list of actions, on the network as it was. */
+    for (q = 0; q < 4; q++) actions[q].kind = kinds[q], actions[q].index = indexes[q], actions[q].value = values[q];
+    first = drained[0];
+    drained[0] = 8;
+    played = cwazi_actions(&o->plan, other, actions, 4, drained, 0);
+    ONE("played.answer of actions with too few places", played.answer, CWAZI_TOO_SHORT);
+    played = cwazi_actions(&o->plan, other, actions, 4, drained, 2);
+    ONE("played.answer of actions", played.answer, 0);
+    ONE("played.feeds of actions", played.feeds, 2);
+    ONE("played.drains of actions", played.drains, 1);
+    ONE("played.firings of actions", played.firings, 0);
+    ONE("the value drained by actions", drained[0], first);
+    ONE("the place past the values drained by actions", drained[1], 7);
+    ONE("the network after actions", memcmp(other, n, sizeof *n) == 0, 1);
+    free(other);
     free(o);
 }
 

@@ -168,6 +168,12 @@ structs! {
         drains: usize,
         firings: usize,
     }
+    /// An action of an order: feed (0), drain (1) or fire (2). Only a feed's value counts.
+    Action {
+        kind: u32,
+        index: u32,
+        value: u32,
+    }
 }
 
 /// The library's own functions. A slice is its pointer and then its length.
@@ -216,6 +222,14 @@ pub mod raw {
             indexes_length: usize,
             values: *const u32,
             values_length: usize,
+            drained: *mut u32,
+            drained_length: usize,
+        ) -> Played;
+        pub fn cwazi_actions(
+            plan: *const Plan,
+            network: *mut Network,
+            actions: *const Action,
+            actions_length: usize,
             drained: *mut u32,
             drained_length: usize,
         ) -> Played;
@@ -339,4 +353,9 @@ pub fn order(
             drained.len(),
         )
     }
+}
+
+/// The same order as one list of actions: 0 or 16.
+pub fn actions(plan: &Plan, network: &mut Network, actions: &[Action], drained: &mut [u32]) -> Played {
+    unsafe { cwazi_actions(plan, network, actions.as_ptr(), actions.len(), drained.as_mut_ptr(), drained.len()) }
 }

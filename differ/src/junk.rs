@@ -127,7 +127,7 @@ fn called(chance: &mut Chance, tally: &mut Tally) -> Same {
     let mut first = Kept::new(*network(chance));
     let mut second = first.clone();
     for _ in 0..12 {
-        let (kind, index, value) = (chance.below(8), small(chance, 600), small(chance, 4));
+        let (kind, index, value) = (chance.below(9), small(chance, 600), small(chance, 4));
         let kinds: Vec<u32> = (0..20).map(|_| small(chance, 4)).collect();
         let indexes: Vec<u32> = (0..20).map(|_| small(chance, 600)).collect();
         let lent: Vec<u32> = (0..24).map(|_| chance.u32()).collect();
@@ -151,6 +151,12 @@ fn called(chance: &mut Chance, tally: &mut Tally) -> Same {
                     (d.answer, d.feeds + 1000 * d.drains, d.firings)
                 }
                 6 => {
+                    let actions: Vec<boards::Action> =
+                        (0..20).map(|i| boards::Action { kind: kinds[i], index: indexes[i], value: indexes[i] }).collect();
+                    let d = boards::actions(p, network, &actions, &mut drained[..20]);
+                    (d.answer, d.feeds + 1000 * d.drains, d.firings)
+                }
+                7 => {
                     let (t, f) = (boards::tokens(p, network, index), boards::finished(p, network, index));
                     (t.answer, t.value as usize, f.value as usize)
                 }

@@ -304,6 +304,9 @@ impl Both<'_> {
     fn play(&mut self, kinds: &[u32], indexes: &[u32], values: &[u32], places: usize) -> Same {
         let lent: Vec<u32> = (0..places).map(|_| self.chance.u32()).collect();
         let (mut drained, mut twins) = (lent.clone(), lent.clone());
+        if kinds.len() == indexes.len() && kinds.len() == values.len() {
+            self.acted(kinds, indexes, values, &lent)?;
+        }
         let played = boards::order(&self.plan, &mut self.network, kinds, indexes, values, &mut drained);
         let (answer, feeds, drains, firings) = self.twin.order(kinds, indexes, values, &mut twins);
         let expected = (answer, feeds as usize, drains as usize, firings as usize);
@@ -316,6 +319,36 @@ impl Both<'_> {
         hold!(drained[played.drains..] == lent[played.drains..], "order changed places past the last drained value");
         self.firings += played.firings as u64;
         self.after(answer, "order")
+    }
+
+    /// The order of three lists and its actions in one, each on its own copy of the network.
+    fn acted(&mut self, kinds: &[u32], indexes: &[u32], values: &[u32], lent: &[u32]) -> Same {
+        let actions: Vec<boards::Action> =
+            (0..kinds.len()).map(|i| boards::Action { kind: kinds[i], index: indexes[i], value: values[i] }).collect();
+        let kept = actions.clone();
+        let (mut by_lists, mut by_actions) = (self.network.clone(), self.network.clone());
+        let (mut listed, mut drained) = (lent.to_vec(), lent.to_vec());
+        let expected = boards::order(&self.plan, &mut by_lists, kinds, indexes, values, &mut listed);
+        let played = boards::actions(&self.plan, &mut by_actions, &actions, &mut drained);
+        hold!(played == expected, "actions' answer and counts: {played:?}, by three lists {expected:?}");
+        hold!(drained == listed, "actions' drained values, or places past them");
+        hold!(by_actions == by_lists, "actions leave another network than the three lists");
+        hold!(actions == kept, "actions were changed");
+        self.tally.met("actions", played.answer);
+        if played.answer == 0 {
+            self.tally.see("actions played as the three lists are");
+            let counts = [self.plan.inputs, self.plan.outputs, self.plan.rules];
+            for (seen, what) in [
+                (actions.is_empty(), "no actions played as empty lists are"),
+                (actions.iter().any(|a| a.kind > 2), "actions with an unknown kind among them"),
+                (actions.iter().any(|a| a.kind <= 2 && a.index as usize >= counts[a.kind as usize]), "actions with an index that is not there"),
+            ] {
+                if seen {
+                    self.tally.see(what);
+                }
+            }
+        }
+        Ok(())
     }
 
     /// Tokens, finished cycles and ready of some things, or of all; and the firing sum.

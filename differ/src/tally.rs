@@ -4,7 +4,7 @@ use crate::damage::Aim;
 use std::collections::BTreeMap;
 
 /// The answers that each call has to give at least once.
-const WANTED: [(&str, &[u32]); 20] = [
+const WANTED: [(&str, &[u32]); 21] = [
     ("read_net", &[0, 1, 2, 3, 4, 5, 6]),
     ("write_net", &[0, 3, 4, 5, 6, 16]),
     ("read_cut", &[0, 3, 7, 8, 9, 10, 11]),
@@ -23,12 +23,13 @@ const WANTED: [(&str, &[u32]); 20] = [
     ("round", &[0]),
     ("run", &[0, 12]),
     ("order", &[0, 12, 16]),
+    ("actions", &[0, 16]),
     ("trace open", &[0, 1, 2, 3, 4, 5, 6, 7, 8, 9, 10, 11]),
     ("trace line", &[0, 12, 13, 14, 17]),
 ];
 
 /// What besides has to be met at least once.
-const SEEN: [&str; 25] = [
+const SEEN: [&str; 29] = [
     "label in the cut sheet",
     "label in the net sheet",
     "label in neither",
@@ -48,6 +49,10 @@ const SEEN: [&str; 25] = [
     "run ended by a round that fired none",
     "order with an unknown kind",
     "order of more than 200 actions",
+    "actions played as the three lists are",
+    "no actions played as empty lists are",
+    "actions with an unknown kind among them",
+    "actions with an index that is not there",
     "register of a later node",
     "register of itself",
     "junk network called",
