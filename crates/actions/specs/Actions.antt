@@ -10,9 +10,11 @@ use Rattle.orders.specs.Orders.{entryOf, actOn, playing, triedOn}
 use Rattle.rules.specs.Calls.{OrderCall}
 use Rattle.actions.specs.declared.Action.{Action}
 
+-- what stands past the last action
 abbrev pub none : Action
 none = record { kind = 0; index = 0; value = 0 }
 
+-- the three lists of an order of actions, and its entries
 abbrev pub kindsOf : List Action → List ℕ
 kindsOf actions = map (λ a. a .kind) actions
 
@@ -34,5 +36,6 @@ Tried P L lent kind index value feeds drains firings r M lent′ =
     → (r .answer ≡ 0)
     × (playing M (r .feeds) (r .drains) (r .firings) lent′ ≡ triedOn (playing L feeds drains firings lent) (entryOf kind index value) (actOn P L (entryOf kind index value)))
 
+-- the whole order: its lists have one length, so it is never refused as 12
 abbrev pub ActionsCall : Plan → Network → List Action → List ℕ → Played → Network → List ℕ → Type 0
 ActionsCall P L actions lent r M lent′ = OrderCall P L (kindsOf actions) (indexesOf actions) (valuesOf actions) lent r M lent′

@@ -1,4 +1,4 @@
--- `actions::act_by` meets its contract. One turn of an order.
+-- `actions::act_by` meets its contract: what is done, stored and counted is one action tried (`tried-by`).
 use denote.Ref.{now}
 use borrow.Author.Needs.{needs}
 use Rattle.plans.specs.declared.Plan.{Plan}
