@@ -1,3 +1,4 @@
 pub mod Places
+mod Counts
 pub mod One
 pub mod Apart

@@ -4,6 +4,7 @@ ghost use Prim.Native.Nat.{ℕ, _<_, _≤_, _^_};
 ghost use lib.Dec.{ltb};
 ghost use lib.ListN.{getD};
 ghost use Rattle.codes.specs.Rows.{rowAt, placeOf, countOf};
+ghost use Rattle.codes.specs.Packed.{countsAt};
 ghost use Rattle.codes.specs.Records.{operandGood, fieldGood, fieldsGood, usesK, widthsGood, recordGood};
 
 // What a row asks of the widths and of k, w being the record's width.
@@ -288,14 +289,22 @@ pub fn record_good(r: Record, i: usize, nodes: usize, width: &[u8]) -> bool
     )
 }
 
-// How many operands a code takes; none where there is no such code.
+// The counts of the 32 codes from 32 times q on, two bits for each.
+fn counts_at(q: u8) -> u64
+    ensures { λ r. ⌜ r ≡ countsAt q ⌝ }
+{
+    match q {
+        0 => 0x55_0000_0010,
+        1 => 0xA_0000_02AA,
+        2 => 0x1B_0000_000A,
+        _ => 0,
+    }
+}
+
+// How many operands a code takes; none where there is no such code. Packed, since the table is stored anew at each look and ranges are jumps.
 pub fn operand_count(code: u8) -> u8
     ensures { λ r. ⌜ r ≡ countOf code ⌝ }
 {
-    let place = row_place(code);
-    if 19 <= place {
-        return 0;
-    }
-    let found = row_at(place);
-    found.operands
+    let counts = counts_at(code / 32);
+    ((counts >> (code % 32 * 2)) % 4) as u8
 }
