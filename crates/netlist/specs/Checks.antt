@@ -14,6 +14,10 @@ use Rattle.netlist.specs.Netlists.{recordOf, outputOf, labelsOf}
 abbrev pub numbersGood : Netlist → Bool
 numbersGood n = leb 1 (n .nodes) && leb (n .nodes) 1024 && leb (n .outputs) 64 && leb (n .labels) 4096
 
+-- the same of the three counts alone
+abbrev pub countsGood : ℕ → ℕ → ℕ → Bool
+countsGood nodes outputs labels = leb 1 nodes && leb nodes 1024 && leb outputs 64 && leb labels 4096
+
 -- 4: a record's rule; the lowest that breaks it
 abbrev pub recordsCheck : Netlist → Check
 recordsCheck n = lowest (λ i. recordGood (n .width) (n .nodes) i (recordOf n i)) (n .nodes)

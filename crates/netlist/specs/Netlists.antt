@@ -5,6 +5,23 @@ use lib.ListN.{getD, take, replicate}
 use Rattle.codes.specs.declared.Record.{Record}
 use Rattle.netlist.specs.declared.Netlist.{Netlist}
 
+-- a netlist by its fields
+abbrev pub netWith : ℕ → List ℕ → List ℕ → List ℕ → List ℕ → List ℕ → List ℕ → ℕ → List ℕ → ℕ → List ℕ → Netlist
+netWith nodes code width a b c k outputs output labels label =
+    record {
+      nodes = nodes;
+      code = code;
+      width = width;
+      a = a;
+      b = b;
+      c = c;
+      k = k;
+      outputs = outputs;
+      output = output;
+      labels = labels;
+      label = label;
+    }
+
 -- a node's record, from the lists of its fields
 abbrev pub recordIn : List ℕ → List ℕ → List ℕ → List ℕ → List ℕ → List ℕ → ℕ → Record
 recordIn code width a b c k i =

@@ -6,8 +6,8 @@ ghost use lib.Dec.{ltb};
 ghost use Rattle.base.specs.Checks.{lowest, verdict};
 ghost use Rattle.codes.specs.Records.{recordGood};
 ghost use Rattle.layout.specs.Labels.{labelCheck};
-ghost use Rattle.netlist.specs.Netlists.{noNet, recordIn, outputIn};
-ghost use Rattle.netlist.specs.Checks.{numbersGood, entryChecks, netChecks};
+ghost use Rattle.netlist.specs.Netlists.{netWith, noNet, recordIn, outputIn};
+ghost use Rattle.netlist.specs.Checks.{countsGood, numbersGood, entryChecks, netChecks};
 
 // What a net sheet says. Node fields are one array each, and a netlist that was read has zeros past its counts.
 #[repr(C)]
@@ -106,22 +106,31 @@ fn check_front(label: &[u8], bytes: usize, nodes: usize) -> base::Check
 }
 
 // The checks 4 to 6, where check 3 is good.
-fn check_entries(net: Netlist) -> base::Verdict
-    requires { ⌜ (net .nodes ≤ 1024) × (net .outputs ≤ 64) × (net .labels ≤ 4096) ⌝ }
-    ensures { λ r. ⌜ r ≡ verdict (entryChecks net) ⌝ }
+fn check_entries<'x>(
+    nodes: usize,
+    outputs: usize,
+    bytes: usize,
+    code: &'x [u8; 1024],
+    width: &'x [u8],
+    a: &'x [u16; 1024],
+    b: &'x [u16; 1024],
+    c: &'x [u16; 1024],
+    k: &'x [u32; 1024],
+    output: &'x [u16; 64],
+    label: &'x [u8],
+) -> base::Verdict
+    requires { ⌜ (nodes ≤ 1024) × (outputs ≤ 64) × (nodes ≤ length (now width)) × (bytes ≤ length (now label)) ⌝ }
+    ensures { λ r. ⌜ r ≡ verdict (entryChecks (netWith nodes (now (code .entry)) (now (width .entry)) (now (a .entry)) (now (b .entry)) (now (c .entry)) (now (k .entry)) outputs (now (output .entry)) bytes (now (label .entry)))) ⌝ }
 {
-    let nodes = net.nodes;
-    let outputs = net.outputs;
-    let bytes = net.labels;
-    let records = check_records(&net.code, &net.width, &net.a, &net.b, &net.c, &net.k, nodes);
+    let records = check_records(code, width, a, b, c, k, nodes);
     if let base::Check::Bad(place) = records {
         return base::Verdict { answer: 4, place };
     }
-    let outs = check_outputs(&net.output, outputs, nodes);
+    let outs = check_outputs(output, outputs, nodes);
     if let base::Check::Bad(place) = outs {
         return base::Verdict { answer: 5, place };
     }
-    let entries = check_front(&net.label, bytes, nodes);
+    let entries = check_front(label, bytes, nodes);
     if let base::Check::Bad(place) = entries {
         return base::Verdict { answer: 6, place };
     }
@@ -131,26 +140,74 @@ fn check_entries(net: Netlist) -> base::Verdict
     }
 }
 
+// Whether nodes, outputs and label bytes are within their numbers.
+fn counts_good(nodes: usize, outputs: usize, bytes: usize) -> bool
+    ensures { λ r. ⌜ r ≡ countsGood nodes outputs bytes ⌝ }
+{
+    (1 <= nodes) & (nodes <= 1024) & (outputs <= 64) & (bytes <= 4096)
+}
+
 // Check 3: nodes, outputs and label bytes are within their numbers.
 pub fn numbers_good(net: Netlist) -> bool
     ensures { λ r. ⌜ r ≡ numbersGood net ⌝ }
 {
-    let nodes = net.nodes;
-    let outputs = net.outputs;
-    let bytes = net.labels;
-    (1 <= nodes) & (nodes <= 1024) & (outputs <= 64) & (bytes <= 4096)
+    counts_good(net.nodes, net.outputs, net.labels)
 }
 
-// The checks 3 to 6.
-pub fn check_net(net: Netlist) -> base::Verdict
-    ensures { λ r. ⌜ r ≡ verdict (netChecks net) ⌝ }
+// The checks 3 to 6 on the fields of a netlist, lent so that none is copied.
+pub fn check_net_in<'x>(
+    nodes: usize,
+    outputs: usize,
+    bytes: usize,
+    code: &'x [u8; 1024],
+    width: &'x [u8],
+    a: &'x [u16; 1024],
+    b: &'x [u16; 1024],
+    c: &'x [u16; 1024],
+    k: &'x [u32; 1024],
+    output: &'x [u16; 64],
+    label: &'x [u8],
+) -> base::Verdict
+    ensures { λ r. ⌜ (length (now (width .entry)) ≡ 1024 → length (now (label .entry)) ≡ 4096 → r ≡ verdict (netChecks (netWith nodes (now (code .entry)) (now (width .entry)) (now (a .entry)) (now (b .entry)) (now (c .entry)) (now (k .entry)) outputs (now (output .entry)) bytes (now (label .entry))))) ⌝ }
 {
-    if numbers_good(net) {
-        check_entries(net)
+    let good = counts_good(nodes, outputs, bytes);
+    if good & (nodes <= width.len()) & (bytes <= label.len()) {
+        check_entries(
+            nodes,
+            outputs,
+            bytes,
+            code,
+            width,
+            a,
+            b,
+            c,
+            k,
+            output,
+            label,
+        )
     } else {
         base::Verdict {
             answer: 3,
             place: 0,
         }
     }
+}
+
+// The checks 3 to 6.
+pub fn check_net(net: Netlist) -> base::Verdict
+    ensures { λ r. ⌜ r ≡ verdict (netChecks net) ⌝ }
+{
+    check_net_in(
+        net.nodes,
+        net.outputs,
+        net.labels,
+        &net.code,
+        &net.width,
+        &net.a,
+        &net.b,
+        &net.c,
+        &net.k,
+        &net.output,
+        &net.label,
+    )
 }

@@ -26,7 +26,7 @@ enum-known-outs c = search needs
 returns-2 : tie.Need-returns-2
 returns-2 c =
     sym
-    (verdict-good 4 _ _ (sym (c .before .before .before .before .before .before .before .before .check-records .ensures) ∙ c .before .before .before .before .before .before .enum-told .given .1)
+    (verdict-good 4 _ _ (sym (c .before .before .before .before .before .before .check-records .ensures) ∙ c .before .before .before .before .enum-told .given .1)
     ∙ verdict-bad 5 _ _ _ (sym (c .before .before .before .check-outputs .ensures) ∙ c .before .outs .given .1))
 
 enum-told-2 : tie.Need-enum-told-2
@@ -41,8 +41,8 @@ enum-known-entries c = search needs
 returns-3 : tie.Need-returns-3
 returns-3 c =
     sym
-    (verdict-good 4 _ _ (sym (c .before .before .before .before .before .before .before .before .before .before .before .before .before .before .check-records .ensures) ∙ c .before .before .before .before .before .before .before .before .before .before .before .before .enum-told .given .1)
-    ∙ verdict-good 5 _ _ (sym (c .before .before .before .before .before .before .before .before .before .check-outputs .ensures) ∙ c .before .before .before .before .before .before .before .enum-told2 .given .1)
+    (verdict-good 4 _ _ (sym (c .before .before .before .before .before .before .before .before .before .check-records .ensures) ∙ c .before .before .before .before .before .before .before .enum-told .given .1)
+    ∙ verdict-good 5 _ _ (sym (c .before .before .before .before .before .before .check-outputs .ensures) ∙ c .before .before .before .before .enum-told2 .given .1)
     ∙ verdict-bad 6 _ _ _ (sym (c .before .before .before .check-front .ensures) ∙ c .before .entries .given .1))
 
 enum-told-3 : tie.Need-enum-told-3
@@ -51,8 +51,8 @@ enum-told-3 c = search needs
 returns-4 : tie.Need-returns-4
 returns-4 c =
     sym
-    (verdict-good 4 _ _ (sym (c .before .before .before .before .before .before .before .before .before .before .before .before .before .check-records .ensures) ∙ c .before .before .before .before .before .before .before .before .before .before .before .enum-told .given .1)
-    ∙ verdict-good 5 _ _ (sym (c .before .before .before .before .before .before .before .before .check-outputs .ensures) ∙ c .before .before .before .before .before .before .enum-told2 .given .1)
+    (verdict-good 4 _ _ (sym (c .before .before .before .before .before .before .before .before .check-records .ensures) ∙ c .before .before .before .before .before .before .enum-told .given .1)
+    ∙ verdict-good 5 _ _ (sym (c .before .before .before .before .before .check-outputs .ensures) ∙ c .before .before .before .enum-told2 .given .1)
     ∙ verdict-good 6 _ _ (sym (c .before .before .check-front .ensures) ∙ c .enum-told3 .given .1)
     ∙ verdict-done)
 
