@@ -1,7 +1,7 @@
 pub mod One
 pub mod Listed
+pub mod Words
 pub mod Marks
-pub mod Numbers
 pub mod Crossings
 pub mod Whole
 pub mod Arrays

@@ -1,10 +1,10 @@
 -- Lists in order, and their entries stored one behind the other: a turn of a loop that finds one more entry or none. By induction on the entries.
 use mathlib.Core.Path.{_≡_, refl, sym, _∙_, ap}
 use mathlib.Core.Bool.{Bool, true, false, cond}
-use mathlib.Core.List.{List, [], _∷_, _++_}
+use mathlib.Core.List.{List, [], _∷_, _++_, append-nil}
 use mathlib.Core.Logic.{⊎-elim}
 use Prim.Native.Nat.{ℕ, zero, suc, _+_, _*_, _<_, _≤_, max}
-use native.Mathlib.Nat.{add-zero, not-suc-le-zero, le-of-suc-le-suc, eq-or-lt-of-le}
+use native.Mathlib.Nat.{add-zero, add-suc, not-suc-le-zero, le-of-suc-le-suc, eq-or-lt-of-le}
 use native.Mathlib.Numerals.{add-one}
 use native.Mathlib.Omega.{arith}
 use lib.ListN.{length, getD, set, length-append, length-set}
@@ -67,6 +67,12 @@ module _ {A : Type 0} where
   unfolding listed
   listed-same zero f g h = refl
   listed-same (suc n) f g h = rw (listed-same n f g (λ k l. h k (omega arith)), h n (omega arith))
+
+  -- entries that are none
+  pub listed-skip : (k z : ℕ) (f : ℕ → List A) → ((j : ℕ) → j < z → f (k + j) ≡ []) → listed (k + z) f ≡ listed k f
+  unfolding listed
+  listed-skip k zero f h = rw (add-zero k)
+  listed-skip k (suc z) f h = rw (add-suc k z, h z (omega arith), append-nil (listed (k + z) f)) (listed-skip k z f (λ j l. h j (omega arith)))
 
   pub laid-none : (f : A → ℕ) (k : ℕ) (g : ℕ → List A) (xs : List ℕ) → xs ≡ laid f k (listed 0 g) xs
   unfolding laid listed
@@ -145,6 +151,11 @@ pub some-same : (n : ℕ) (t u : ℕ → Bool) → ((k : ℕ) → k < n → t k 
 unfolding some
 some-same zero t u h = refl
 some-same (suc n) t u h = rw (h n (omega arith), some-same n t u (λ k l. h k (omega arith)))
+
+pub some-none : (n : ℕ) (t : ℕ → Bool) → ((k : ℕ) → k < n → t k ≡ false) → some n t ≡ false
+unfolding some
+some-none zero t h = refl
+some-none (suc n) t h = rw (h n (omega arith)) (some-none n t (λ k l. h k (omega arith)))
 
 pub largest-same : (n : ℕ) (f g : ℕ → ℕ) → ((k : ℕ) → k < n → f k ≡ g k) → largest n f ≡ largest n g
 unfolding largest

@@ -32,6 +32,24 @@ viaOf n part s i x =
     (channelPlace n part x (partOf part i))
     noQueue
 
+-- queues by their fields
+abbrev pub queuesWith : ℕ → ℕ → ℕ → ℕ → ℕ → List ℕ → List ℕ → List ℕ → List ℕ → List ℕ → List ℕ → List ℕ → Queues
+queuesWith parts count inputs channels outputs node from into input a b c =
+    record {
+      parts = parts;
+      count = count;
+      inputs = inputs;
+      channels = channels;
+      outputs = outputs;
+      node = node;
+      from = from;
+      into = into;
+      input = input;
+      a = a;
+      b = b;
+      c = c;
+    }
+
 -- zeros alone
 unfoldable pub noQueues : Queues
 noQueues =

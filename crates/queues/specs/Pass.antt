@@ -2,7 +2,9 @@
 use mathlib.Core.Path.{_≡_}
 use mathlib.Core.Bool.{Bool, true, false, cond, not, _&&_}
 use mathlib.Core.List.{List, [], _∷_}
-use Prim.Native.Nat.{ℕ, zero, suc, _+_, _*_}
+use Prim.Native.Nat.{ℕ, zero, suc, _+_, _-_, _/_, _%_, _^_, _<_}
+use lib.Bits.{bitAnd, bitOr}
+use lib.Count.{ones}
 use lib.Dec.{eqb, ltb}
 use lib.ListN.{length, getD, set, take}
 use Rattle.codes.specs.Rows.{isIn, countOf}
@@ -10,9 +12,9 @@ use Rattle.queues.specs.Lists.{listed, oneIf, some, member}
 use Rattle.queues.specs.Queues.{Queue, partOf, inputAt, channelAt, outputAt}
 use Rattle.queues.specs.Found.{noQueue}
 
--- the place of a node and a part in the marks
-abbrev pub pair : ℕ → ℕ → ℕ
-pair i p = i * 32 + p
+-- bit p of a word
+abbrev pub bitOf : ℕ → ℕ → Bool
+bitOf w p = eqb (w / 2 ^ p % 2) 1
 
 -- the arrays of the queues have 512 places each
 abbrev pub Places : List ℕ → List ℕ → List ℕ → Type 0
@@ -22,16 +24,16 @@ Places node from into = (length node ≡ 512) × (length from ≡ 512) × (lengt
 abbrev pub setIf : {A : Type 0} → Bool → List A → ℕ → A → List A
 setIf b xs k x = cond b (set xs k x) xs
 
--- node x is used in part p
-abbrev pub markIf : Bool → ℕ → ℕ → List Bool → List Bool
-markIf used x p marks = setIf used marks (pair x p) true
+-- node x is used in part p: bit p of its word is set
+abbrev pub markIf : Bool → ℕ → ℕ → List ℕ → List ℕ
+markIf used x p marks = setIf used marks x (bitOr (getD marks x 0) (2 ^ p))
 
 -- the operands of one node of part p, whose code takes m of the fields a, b, c
-abbrev pub markThree : ℕ → ℕ → ℕ → ℕ → ℕ → List Bool → List Bool
+abbrev pub markThree : ℕ → ℕ → ℕ → ℕ → ℕ → List ℕ → List ℕ
 markThree m a b c p marks = markIf (ltb 2 m) c p (markIf (ltb 1 m) b p (markIf (ltb 0 m) a p marks))
 
 -- those of the first n nodes
-unfoldable pub marked : List ℕ → List ℕ → List ℕ → List ℕ → List ℕ → ℕ → List Bool → List Bool
+unfoldable pub marked : List ℕ → List ℕ → List ℕ → List ℕ → List ℕ → ℕ → List ℕ → List ℕ
 marked code a b c part zero marks = marks
 marked code a b c part (suc n) marks = markThree (countOf (getD code n 0)) (getD a n 0) (getD b n 0) (getD c n 0) (getD part n 0) (marked code a b c part n marks)
 
@@ -42,15 +44,19 @@ inputsIn code part i = listed i (λ j. oneIf (isIn (getD code j 0)) (inputAt par
 abbrev pub placeIf : Bool → ℕ → ℕ
 placeIf b q = cond b q noQueue
 
--- by the marks: node i crosses to part p; its channels to the first p of them; those of the first i nodes to m parts
-abbrev pub crossed : List ℕ → List Bool → ℕ → ℕ → Bool
-crossed part marks i p = not (eqb (partOf part i) p) && getD marks (pair i p) false
+-- the word without the node's own part
+abbrev pub others : ℕ → ℕ → ℕ
+others word own = bitAnd word (2 ^ 32 - 1 - 2 ^ own)
 
-abbrev pub channelsBy : List ℕ → List Bool → ℕ → ℕ → List Queue
+-- by the marks: node i crosses to part p; its channels to the first p of them; those of the first i nodes to all 32
+abbrev pub crossed : List ℕ → List ℕ → ℕ → ℕ → Bool
+crossed part marks i p = bitOf (others (getD marks i 0) (partOf part i)) p
+
+abbrev pub channelsBy : List ℕ → List ℕ → ℕ → ℕ → List Queue
 channelsBy part marks i p = listed p (λ r. oneIf (crossed part marks i r) (channelAt part i r))
 
-abbrev pub channelsUpTo : List ℕ → List Bool → ℕ → ℕ → List Queue
-channelsUpTo part marks m i = listed i (λ j. channelsBy part marks j m)
+abbrev pub channelsUpTo : List ℕ → List ℕ → ℕ → List Queue
+channelsUpTo part marks i = listed i (λ j. channelsBy part marks j 32)
 
 -- the same by the operands of n nodes, as Queues has it of a netlist
 abbrev pub crossesIn : List ℕ → List ℕ → List ℕ → List ℕ → List ℕ → ℕ → ℕ → ℕ → Bool
@@ -61,22 +67,25 @@ crossesIn code a b c part n i p =
 abbrev pub channelsIn : List ℕ → List ℕ → List ℕ → List ℕ → List ℕ → ℕ → ℕ → ℕ → List Queue
 channelsIn code a b c part n i p = listed p (λ r. oneIf (crossesIn code a b c part n i r) (channelAt part i r))
 
-abbrev pub channelsAllIn : List ℕ → List ℕ → List ℕ → List ℕ → List ℕ → ℕ → ℕ → ℕ → List Queue
-channelsAllIn code a b c part n m i = listed i (λ j. channelsIn code a b c part n j m)
+abbrev pub channelsAllIn : List ℕ → List ℕ → List ℕ → List ℕ → List ℕ → ℕ → ℕ → List Queue
+channelsAllIn code a b c part n i = listed i (λ j. channelsIn code a b c part n j 32)
 
--- a number for node i and each of the first p parts; and for each of the first i nodes and m parts
-unfoldable pub numberRow : (ℕ → ℕ) → ℕ → ℕ → List ℕ → List ℕ
-numberRow f i zero xs = xs
-numberRow f i (suc p) xs = set (numberRow f i p xs) (pair i p) (f p)
+-- how many of a node's other parts stand before part p
+abbrev pub before : ℕ → ℕ → ℕ → ℕ
+before word own p = ones (others word own % 2 ^ p)
 
-unfoldable pub numbers : (ℕ → ℕ → ℕ) → ℕ → ℕ → List ℕ → List ℕ
-numbers f m zero xs = xs
-numbers f m (suc i) xs = numberRow (f i) i m (numbers f m i xs)
+-- the marks tell how many of a node's channels stand before each
+abbrev pub Told : List ℕ → List ℕ → List ℕ → List ℕ → List ℕ → ℕ → List ℕ → Type 0
+Told code a b c part n marks = (i p : ℕ) → i < n → p < 32 → before (getD marks i 0) (partOf part i) p ≡ length (channelsIn code a b c part n i p)
 
 -- the first j outputs
 abbrev pub outputsIn : List ℕ → List ℕ → ℕ → List Queue
 outputsIn output part j = listed j (λ m. oneIf true (outputAt part (getD output m 0)))
 
--- the number of the queue that an operand x is read from in part p, where the field is used
-abbrev pub viaIn : List ℕ → List ℕ → ℕ → Bool → ℕ → ℕ → ℕ
-viaIn part number nodes used x p = cond (used && ltb x nodes && not (eqb (partOf part x) p)) (getD number (pair x p) 0) noQueue
+-- The number of the queue that an operand x is read from in part p, where the field is used: that of x's first channel, and how many of them stand before. No
+-- number is so large that it wraps.
+abbrev pub viaIn : List ℕ → List ℕ → List ℕ → ℕ → Bool → ℕ → ℕ → ℕ
+viaIn part marks first nodes used x p =
+    cond (used && ltb x nodes && not (eqb (partOf part x) p))
+    ((getD first x 0 + before (getD marks x 0) (partOf part x) p) % 2 ^ 16)
+    noQueue

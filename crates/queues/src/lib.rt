@@ -1,10 +1,12 @@
 // The queues of a cut drawing, in the outline's order, found in one pass over the operands.
 ghost use mathlib.Core.Path.{_≡_};
 ghost use mathlib.Core.Bool.{true};
+ghost use mathlib.Core.List.{List};
 ghost use Prim.Native.Nat.{ℕ, _≤_};
 ghost use lib.Dec.{leb};
 ghost use lib.ListN.{getD};
 ghost use Rattle.base.specs.Checks.{every};
+ghost use Rattle.netlist.specs.Netlists.{netWith};
 ghost use Rattle.queues.specs.Found.{noQueues, found, queuesFound};
 
 mod channels;
@@ -52,24 +54,32 @@ pub fn no_queues() -> Queues
     }
 }
 
-// The queues of a drawing whose parts fit.
-fn number_queues(net: netlist::Netlist, part: [u8; 1024]) -> Queues
-    requires { ⌜ (net .nodes ≤ 1024) × (net .outputs ≤ 64) × (every (λ i. leb (getD part i 0) 31) (net .nodes) ≡ true) ⌝ }
-    ensures { λ r. ⌜ r ≡ found net part ⌝ }
+// The queues of a drawing whose parts fit, of which the fields are lent that they hang on.
+fn number_queues<'x>(
+    nodes: usize,
+    outputs: usize,
+    code: &'x [u8; 1024],
+    fa: &'x [u16; 1024],
+    fb: &'x [u16; 1024],
+    fc: &'x [u16; 1024],
+    output: &'x [u16; 64],
+    part: [u8; 1024],
+) -> Queues
+    requires { ⌜ (nodes ≤ 1024) × (outputs ≤ 64) × (every (λ i. leb (getD part i 0) 31) nodes ≡ true) ⌝ }
+    ensures { λ r. ⌜ ((w k t : List ℕ) (l : ℕ) → r ≡ found (netWith nodes (now (code .entry)) w (now (fa .entry)) (now (fb .entry)) (now (fc .entry)) k outputs (now (output .entry)) l t) part) ⌝ }
 {
-    let nodes = net.nodes;
-    let outputs = net.outputs;
     let parts = parts::count_parts(&part, nodes);
     let mut node = [0u16; 512];
     let mut from = [0u8; 512];
     let mut into = [0u8; 512];
     let mut input = [0u16; 1024];
-    let mut number = [0u16; 32768];
+    let mut first = [0u16; 1024];
+    let mut marks = [0u32; 1024];
     let mut a = [0u16; 1024];
     let mut b = [0u16; 1024];
     let mut c = [0u16; 1024];
     let inputs = ends::find_inputs(
-        &net.code,
+        code,
         &part,
         nodes,
         &mut node,
@@ -78,31 +88,23 @@ fn number_queues(net: netlist::Netlist, part: [u8; 1024]) -> Queues
         &mut input,
     );
     let end = channels::lay_channels(
-        &net.code,
-        &net.a,
-        &net.b,
-        &net.c,
+        code,
+        fa,
+        fb,
+        fc,
         &part,
         nodes,
-        parts,
         inputs,
         &mut node,
         &mut from,
         &mut into,
-        &mut number,
+        &mut first,
+        &mut marks,
     );
-    ends::find_outputs(
-        &net.output,
-        &part,
-        outputs,
-        end,
-        &mut node,
-        &mut from,
-        &mut into,
-    );
-    maps::map_field(&net.code, &net.a, 0, &part, &number, nodes, &mut a);
-    maps::map_field(&net.code, &net.b, 1, &part, &number, nodes, &mut b);
-    maps::map_field(&net.code, &net.c, 2, &part, &number, nodes, &mut c);
+    ends::find_outputs(output, &part, outputs, end, &mut node, &mut from, &mut into);
+    maps::map_field(code, fa, 0, &part, &marks, &first, nodes, &mut a);
+    maps::map_field(code, fb, 1, &part, &marks, &first, nodes, &mut b);
+    maps::map_field(code, fc, 2, &part, &marks, &first, nodes, &mut c);
     Queues {
         parts,
         count: end + outputs,
@@ -119,19 +121,42 @@ fn number_queues(net: netlist::Netlist, part: [u8; 1024]) -> Queues
     }
 }
 
-// The queues of a drawing cut into parts, in order; none where the parts do not fit.
-pub fn find_queues(net: netlist::Netlist, part: [u8; 1024]) -> Queues
-    ensures { λ r. ⌜ r ≡ queuesFound net part ⌝ }
+// The same in order of a drawing cut into parts; none where the parts do not fit.
+pub fn find_queues_in<'x>(
+    nodes: usize,
+    outputs: usize,
+    code: &'x [u8; 1024],
+    fa: &'x [u16; 1024],
+    fb: &'x [u16; 1024],
+    fc: &'x [u16; 1024],
+    output: &'x [u16; 64],
+    part: [u8; 1024],
+) -> Queues
+    ensures { λ r. ⌜ ((w k t : List ℕ) (l : ℕ) → r ≡ queuesFound (netWith nodes (now (code .entry)) w (now (fa .entry)) (now (fb .entry)) (now (fc .entry)) k outputs (now (output .entry)) l t) part) ⌝ }
 {
-    let nodes = net.nodes;
-    let outputs = net.outputs;
     if (nodes <= 1024) & (outputs <= 64) {
         if parts::parts_fit(&part, nodes) {
-            number_queues(net, part)
+            number_queues(nodes, outputs, code, fa, fb, fc, output, part)
         } else {
             no_queues()
         }
     } else {
         no_queues()
     }
+}
+
+// The queues of a drawing cut into parts, in order; none where the parts do not fit.
+pub fn find_queues(net: netlist::Netlist, part: [u8; 1024]) -> Queues
+    ensures { λ r. ⌜ r ≡ queuesFound net part ⌝ }
+{
+    find_queues_in(
+        net.nodes,
+        net.outputs,
+        &net.code,
+        &net.a,
+        &net.b,
+        &net.c,
+        &net.output,
+        part,
+    )
 }

@@ -12,19 +12,21 @@ ghost use Rattle.queues.specs.Pass.{viaIn};
 // The queue that operand x is read from in part p; none where the field is no operand or x is in that part itself.
 fn via_at<'x>(
     part: &'x [u8; 1024],
-    number: &'x [u16; 32768],
+    marks: &'x [u32; 1024],
+    first: &'x [u16; 1024],
     nodes: usize,
     used: bool,
     x: u16,
     p: u8,
 ) -> u16
-    requires { ⌜ (nodes ≤ 1024) × (p < 32) ⌝ }
-    ensures { λ r. ⌜ r ≡ viaIn (now (part .entry)) (now (number .entry)) nodes used x p ⌝ }
+    requires { ⌜ (nodes ≤ 1024) × (p < 32) × (every (λ i. leb (getD (now part) i 0) 31) nodes ≡ true) ⌝ }
+    ensures { λ r. ⌜ r ≡ viaIn (now (part .entry)) (now (marks .entry)) (now (first .entry)) nodes used x p ⌝ }
 {
     let i = x as usize;
     if used & (i < nodes) {
-        if part[i] != p {
-            number[i * 32 + p as usize]
+        let own = part[i];
+        if own != p {
+            crate::channels::channel_at(first[i], marks[i], own, p)
         } else {
             512
         }
@@ -39,17 +41,18 @@ pub fn map_field<'x>(
     field: &'x [u16; 1024],
     s: u8,
     part: &'x [u8; 1024],
-    number: &'x [u16; 32768],
+    marks: &'x [u32; 1024],
+    first: &'x [u16; 1024],
     n: usize,
     via: &mut [u16; 1024],
 )
     requires { ⌜ (n ≤ 1024) × (every (λ i. leb (getD (now part) i 0) 31) n ≡ true) ⌝ }
-    ensures { λ _. ⌜ now (via .exit) ≡ fill (λ i. viaIn (now (part .entry)) (now (number .entry)) n (ltb s (countOf (getD (now (code .entry)) i 0))) (getD (now (field .entry)) i 0) (getD (now (part .entry)) i 0)) n (now (via .entry)) ⌝ }
+    ensures { λ _. ⌜ now (via .exit) ≡ fill (λ i. viaIn (now (part .entry)) (now (marks .entry)) (now (first .entry)) n (ltb s (countOf (getD (now (code .entry)) i 0))) (getD (now (field .entry)) i 0) (getD (now (part .entry)) i 0)) n (now (via .entry)) ⌝ }
 {
     let mut i = 0;
     while i < n {
         let used = s < codes::operand_count(code[i]);
-        via[i] = via_at(part, number, n, used, field[i], part[i]);
+        via[i] = via_at(part, marks, first, n, used, field[i], part[i]);
         i += 1;
     }
 }

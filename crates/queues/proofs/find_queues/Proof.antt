@@ -1,51 +1,15 @@
--- `queues::find_queues` meets its contract. The tests of the code are those of the definition.
-use mathlib.Core.Path.{_≡_, sym, _∙_}
-use mathlib.Core.Bool.{true}
-use borrow.Author.Tests.{leb-true}
-use lib.Dec.{leb}
-use Rattle.base.proofs.Tests.{and-left, and-right}
-use Rattle.queues.specs.Found.{queuesFound}
+-- `queues::find_queues` meets its contract. A netlist is its fields.
 use borrow.Author.Needs.{needs}
 use Rattle.queues.proofs.find_queues.Statement.{statement}
 use Rattle.queues.proofs.find_queues.Tie as tie
 
-parts-fit-requires : tie.Need-parts-fit-requires
-parts-fit-requires c κs =
-    let n = c .before .before .args .net in
-    leb-true (n .nodes) 1024 (and-left (leb (n .nodes) 1024) (leb (n .outputs) 64) (c .before .if1 .taken))
-
-number-queues-requires : tie.Need-number-queues-requires
-number-queues-requires c κs =
-    let n = c .before .before .before .before .args .net in
-    let t = c .before .before .before .if1 .taken in
-    (leb-true (n .nodes) 1024 (and-left (leb (n .nodes) 1024) (leb (n .outputs) 64) t), leb-true (n .outputs) 64 (and-right (leb (n .nodes) 1024) (leb (n .outputs) 64) t), sym (c .before .parts-fit .ensures) ∙ c .if2 .taken)
-
-no-queues-requires : tie.Need-no-queues-requires
-no-queues-requires c κs = search needs
-
-no-queues-requires-2 : tie.Need-no-queues-requires-2
-no-queues-requires-2 c κs = search needs
+find-queues-in-requires : tie.Need-find-queues-in-requires
+find-queues-in-requires c κs = search needs
 
 returns : tie.Need-returns
-unfolding queuesFound
-returns c = rw (c .before .before .before .before .if1 .taken, sym (c .before .before .parts-fit .ensures) ∙ c .before .if2 .taken) (c .number-queues .ensures)
-
-returns-2 : tie.Need-returns-2
-unfolding queuesFound
-returns-2 c = rw (c .before .before .before .before .if1 .taken, sym (c .before .before .parts-fit .ensures) ∙ c .before .if2 .left) (c .no-queues .ensures)
-
-returns-3 : tie.Need-returns-3
-unfolding queuesFound
-returns-3 c = rw (c .before .if1 .left) (c .no-queues2 .ensures)
+returns c =
+    let n = c .before .before .before .before .before .before .before .args .t1 in
+    c .find-queues-in .ensures (n .width) (n .k) (n .label) (n .labels)
 
 pub find-queues-spec : {M : Type 1} → statement M
-find-queues-spec =
-    tie.close
-    (tie.spec
-    parts-fit-requires
-    number-queues-requires
-    no-queues-requires
-    no-queues-requires-2
-    returns
-    returns-2
-    returns-3)
+find-queues-spec = tie.close (tie.spec find-queues-in-requires returns)

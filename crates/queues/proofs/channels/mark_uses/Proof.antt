@@ -4,13 +4,15 @@ use Prim.Native.Nat.{_-_, _≤_}
 use native.Mathlib.Omega.{arith}
 use lib.ListN.{length}
 use Rattle.queues.specs.Pass.{marked}
+use denote.Ref.{now}
 use Rattle.queues.proofs.Marks.{mark-turn}
+use Rattle.queues.proofs.Crossings.{below-32}
 use borrow.Author.Needs.{needs}
 use Rattle.queues.proofs.channels.mark_uses.Statement.{statement}
 use Rattle.queues.proofs.channels.mark_uses.Tie as tie
 
 abbrev Inv-loop : tie.InvT-loop
-Inv-loop code a b c part n marks₀ i₀ marks i = (i ≤ n) × (marks ≡ marked code a b c part i marks₀) × (length marks ≡ 32768)
+Inv-loop code a b c part n marks₀ i₀ marks i = (i ≤ n) × (marks ≡ marked code a b c part i marks₀) × (length marks ≡ 1024)
 
 abbrev μ-loop : tie.MeasureT-loop
 μ-loop code a b c part n marks₀ i₀ marks i = n - i
@@ -35,7 +37,7 @@ element-copy-out-mark : tie.Need-element-copy-out-mark Inv-loop μ-loop
 element-copy-out-mark c = search needs
 
 mark-requires : tie.Need-mark-requires Inv-loop μ-loop
-mark-requires c κs = c .before .before .before .before .before .before .loop .inv .2
+mark-requires c κs = (below-32 (now (c .before .before .before .before .before .before .before .args .part)) (c .before .before .before .before .before .before .before .args .n) (c .before .before .before .before .before .before .before .pre .2) (c .before .before .before .before .before .before .loop .i) (search needs), c .before .before .before .before .before .before .loop .inv .2)
 
 mul-mark-2 : tie.Need-mul-mark-2 Inv-loop μ-loop
 mul-mark-2 c = search needs
@@ -44,7 +46,7 @@ element-copy-out-mark-2 : tie.Need-element-copy-out-mark-2 Inv-loop μ-loop
 element-copy-out-mark-2 c = search needs
 
 mark-requires-2 : tie.Need-mark-requires-2 Inv-loop μ-loop
-mark-requires-2 c κs = c .before .before .mark .ensures .1
+mark-requires-2 c κs = (below-32 (now (c .before .before .before .before .before .before .before .before .before .before .args .part)) (c .before .before .before .before .before .before .before .before .before .before .args .n) (c .before .before .before .before .before .before .before .before .before .before .pre .2) (c .before .before .before .before .before .before .before .before .before .loop .i) (search needs), c .before .before .mark .ensures .1)
 
 mul-mark-3 : tie.Need-mul-mark-3 Inv-loop μ-loop
 mul-mark-3 c = search needs
@@ -53,7 +55,7 @@ element-copy-out-mark-3 : tie.Need-element-copy-out-mark-3 Inv-loop μ-loop
 element-copy-out-mark-3 c = search needs
 
 mark-requires-3 : tie.Need-mark-requires-3 Inv-loop μ-loop
-mark-requires-3 c κs = c .before .before .mark2 .ensures .1
+mark-requires-3 c κs = (below-32 (now (c .before .before .before .before .before .before .before .before .before .before .before .before .before .args .part)) (c .before .before .before .before .before .before .before .before .before .before .before .before .before .args .n) (c .before .before .before .before .before .before .before .before .before .before .before .before .before .pre .2) (c .before .before .before .before .before .before .before .before .before .before .before .before .loop .i) (search needs), c .before .before .mark2 .ensures .1)
 
 add-i : tie.Need-add-i Inv-loop μ-loop
 add-i c = search needs

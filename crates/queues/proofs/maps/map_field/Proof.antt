@@ -6,21 +6,19 @@ use denote.Ref.{now}
 use lib.ListN.{length, getD}
 use Rattle.base.specs.Lists.{fill}
 use Rattle.base.proofs.Fill.{fill-none, fill-step, fill-end}
-use Rattle.base.proofs.Tests.{every-at}
 use Rattle.codes.specs.Rows.{countOf}
 use Rattle.queues.specs.Pass.{viaIn}
-use lib.Dec.{ltb, leb}
-use borrow.Author.Tests.{leb-true}
-use mathlib.Core.Bool.{true}
+use lib.Dec.{ltb}
 use borrow.Author.Needs.{needs}
+use Rattle.queues.proofs.Crossings.{below-32}
 use Rattle.queues.proofs.maps.map_field.Statement.{statement}
 use Rattle.queues.proofs.maps.map_field.Tie as tie
 
 abbrev Inv-loop : tie.InvT-loop
-Inv-loop code field s part number n via₀ i₀ via i = (i ≤ n) × (via ≡ fill (λ j. viaIn part number n (ltb s (countOf (getD code j 0))) (getD field j 0) (getD part j 0)) i via₀)
+Inv-loop code field s part marks first n via₀ i₀ via i = (i ≤ n) × (via ≡ fill (λ j. viaIn part marks first n (ltb s (countOf (getD code j 0))) (getD field j 0) (getD part j 0)) i via₀)
 
 abbrev μ-loop : tie.MeasureT-loop
-μ-loop code field s part number n via₀ i₀ via i = n - i
+μ-loop code field s part marks first n via₀ i₀ via i = n - i
 
 loop-holds : tie.Need-loop-holds Inv-loop μ-loop
 loop-holds c = (search needs, fill-none _ _)
@@ -44,9 +42,7 @@ via-at-requires : tie.Need-via-at-requires Inv-loop μ-loop
 via-at-requires c κs =
     let s = c .before .before .before .before .before .before in
     let l = c .before .before .before .before .before .loop in
-    let h : leb (getD (now (s .args .part)) (l .i) 0) 31 ≡ true = every-at (λ j. leb (getD (now (s .args .part)) j 0) 31) (s .args .n) (s .pre .1) (l .i) (search needs) in
-    let g : getD (now (s .args .part)) (l .i) 0 ≤ 31 = leb-true (getD (now (s .args .part)) (l .i) 0) 31 h in
-    (s .pre .0, omega arith)
+    (s .pre .0, below-32 (now (s .args .part)) (s .args .n) (s .pre .1) (l .i) (search needs), s .pre .1)
 
 mul-via : tie.Need-mul-via Inv-loop μ-loop
 mul-via c = search needs
