@@ -26,19 +26,29 @@ pub fn read_net(sheet: &[u8]) -> NetRead
         return refused(1, 0);
     }
     let s = layout::find_sections(sheet, 0x4E);
-    if s.good & (s.middle % 2 == 0) & (s.front % 12 == 0) {
-        let net = crate::load::net_from(sheet, s.front, s.middle, s.labels);
-        let v = netlist::check_net(net);
-        if v.answer == 0 {
-            NetRead {
-                answer: v.answer,
-                place: v.place,
-                net,
-            }
-        } else {
-            refused(v.answer, v.place)
-        }
-    } else {
-        refused(2, 0)
+    if !(s.good & (s.middle % 2 == 0) & (s.front % 12 == 0)) {
+        return refused(2, 0);
+    }
+    let net = crate::load::net_from(sheet, s.front, s.middle, s.labels);
+    let v = netlist::check_net_in(
+        net.nodes,
+        net.outputs,
+        net.labels,
+        &net.code,
+        &net.width,
+        &net.a,
+        &net.b,
+        &net.c,
+        &net.k,
+        &net.output,
+        &net.label,
+    );
+    if v.answer != 0 {
+        return refused(v.answer, v.place);
+    }
+    NetRead {
+        answer: v.answer,
+        place: v.place,
+        net,
     }
 }
