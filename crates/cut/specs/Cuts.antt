@@ -23,3 +23,15 @@ noCut =
       labels = 0;
       label = replicate 4096 0;
     }
+
+-- a cut by its fields
+abbrev pub cutWith : ℕ → List ℕ → ℕ → List ℕ → ℕ → List ℕ → Cut
+cutWith nodes part queues depth labels label =
+    record {
+      nodes = nodes;
+      part = part;
+      queues = queues;
+      depth = depth;
+      labels = labels;
+      label = label;
+    }

@@ -62,7 +62,16 @@ fn check_queues(net: netlist::Netlist, cut: Cut) -> CutChecked
     let nodes = net.nodes;
     let labels = cut.labels;
     let part = cut.part;
-    let queues = queues::find_queues(net, part);
+    let queues = queues::find_queues_in(
+        nodes,
+        net.outputs,
+        &net.code,
+        &net.a,
+        &net.b,
+        &net.c,
+        &net.output,
+        part,
+    );
     let count = queues.count;
     if (count <= 512) & (cut.queues == count) {
         let depths = entries::check_depths(&cut.depth, count);

@@ -34,21 +34,19 @@ pub fn read_cut(net: netlist::Netlist, sheet: &[u8]) -> CutRead
         return refused(3, 0);
     }
     let s = layout::find_sections(sheet, 0x43);
-    if s.good & (s.labels <= 4096) {
-        let cut = crate::load::cut_from(sheet, s.front, s.middle, s.labels);
-        let v = cut::check_cut(net, cut);
-        if v.answer == 0 {
-            let queues = v.queues;
-            CutRead {
-                answer: 0,
-                place: 0,
-                cut,
-                queues,
-            }
-        } else {
-            refused(v.answer, v.place)
-        }
-    } else {
-        refused(7, 0)
+    if !(s.good & (s.labels <= 4096)) {
+        return refused(7, 0);
+    }
+    let cut = crate::load::cut_from(sheet, s.front, s.middle, s.labels);
+    let v = cut::check_cut(net, cut);
+    if v.answer != 0 {
+        return refused(v.answer, v.place);
+    }
+    let queues = v.queues;
+    CutRead {
+        answer: 0,
+        place: 0,
+        cut,
+        queues,
     }
 }

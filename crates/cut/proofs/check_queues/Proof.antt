@@ -12,16 +12,16 @@ use borrow.Author.Needs.{needs}
 use Rattle.cut.proofs.check_queues.Statement.{statement}
 use Rattle.cut.proofs.check_queues.Tie as tie
 
-find-queues-requires : tie.Need-find-queues-requires
-find-queues-requires c κs = search needs
+find-queues-in-requires : tie.Need-find-queues-in-requires
+find-queues-in-requires c κs = search needs
 
 check-depths-requires : tie.Need-check-depths-requires
 check-depths-requires c κs =
-    let s = c .before .before .before .before .before in
-    let n = s .args .net in
+    let s = c .before .before .before .before .before .before .before .before .before .before .before in
+    let n = s .args .t1 in
     let t = s .args .t2 in
-    let q = c .before .before .before .find-queues in
-    let f : q .result ≡ found n (t .part) = q .ensures ∙ found-is n t (s .pre .0) (s .pre .2) in
+    let q = c .before .before .before .find-queues-in in
+    let f : q .result ≡ found n (t .part) = q .ensures (n .width) (n .k) (n .label) (n .labels) ∙ found-is n t (s .pre .0) (s .pre .2) in
     let few : q .result .count ≤ 512 = leb-true (q .result .count) 512 (and-left (leb (q .result .count) 512) (eqb (t .queues) (q .result .count)) (c .before .before .if1 .taken)) in
     few
 
@@ -33,11 +33,11 @@ refused-requires c κs = search needs
 
 returns : tie.Need-returns
 returns c =
-    let s = c .before .before .before .before .before .before .before .before .before .before in
-    let n = s .args .net in
+    let s = c .before .before .before .before .before .before .before .before .before .before .before .before .before .before .before .before in
+    let n = s .args .t1 in
     let t = s .args .t2 in
-    let q = c .before .before .before .before .before .before .before .before .find-queues in
-    let f : q .result ≡ found n (t .part) = q .ensures ∙ found-is n t (s .pre .0) (s .pre .2) in
+    let q = c .before .before .before .before .before .before .before .before .find-queues-in in
+    let f : q .result ≡ found n (t .part) = q .ensures (n .width) (n .k) (n .label) (n .labels) ∙ found-is n t (s .pre .0) (s .pre .2) in
     let few : q .result .count ≤ 512 = leb-true (q .result .count) 512 (and-left (leb (q .result .count) 512) (eqb (t .queues) (q .result .count)) (c .before .before .before .before .before .before .before .if1 .taken)) in
     c .refused .ensures ∙ sym (checked-bad 9 _ _ _ _ (lit< tt) (depths-is n t (q .result) f (c .before .before .before .before .before .before .before .if1 .taken) ∙ sym (c .before .before .before .before .check-depths .ensures) ∙ c .before .before .depths .given .1))
 
@@ -46,11 +46,11 @@ enum-told c = search needs
 
 check-joined-requires : tie.Need-check-joined-requires
 check-joined-requires c κs =
-    let s = c .before .before .before .before .before .before .before .before .before .before .before in
-    let n = s .args .net in
+    let s = c .before .before .before .before .before .before .before .before .before .before .before .before .before .before .before .before .before in
+    let n = s .args .t1 in
     let t = s .args .t2 in
-    let q = c .before .before .before .before .before .before .before .before .before .find-queues in
-    let f : q .result ≡ found n (t .part) = q .ensures ∙ found-is n t (s .pre .0) (s .pre .2) in
+    let q = c .before .before .before .before .before .before .before .before .before .find-queues-in in
+    let f : q .result ≡ found n (t .part) = q .ensures (n .width) (n .k) (n .label) (n .labels) ∙ found-is n t (s .pre .0) (s .pre .2) in
     let few : q .result .count ≤ 512 = leb-true (q .result .count) 512 (and-left (leb (q .result .count) 512) (eqb (t .queues) (q .result .count)) (c .before .before .before .before .before .before .before .before .if1 .taken)) in
     let parts : q .result .parts ≤ 32 = rw (ap (λ r. r .parts) f ∙ parts-is n (t .part)) (few-parts n t (s .pre .0) (s .pre .2)) in
     (few, omega arith)
@@ -63,11 +63,11 @@ refused-requires-2 c κs = search needs
 
 returns-2 : tie.Need-returns-2
 returns-2 c =
-    let s = c .before .before .before .before .before .before .before .before .before .before .before .before .before .before .before .before in
-    let n = s .args .net in
+    let s = c .before .before .before .before .before .before .before .before .before .before .before .before .before .before .before .before .before .before .before .before .before .before in
+    let n = s .args .t1 in
     let t = s .args .t2 in
-    let q = c .before .before .before .before .before .before .before .before .before .before .before .before .before .before .find-queues in
-    let f : q .result ≡ found n (t .part) = q .ensures ∙ found-is n t (s .pre .0) (s .pre .2) in
+    let q = c .before .before .before .before .before .before .before .before .before .before .before .before .before .before .find-queues-in in
+    let f : q .result ≡ found n (t .part) = q .ensures (n .width) (n .k) (n .label) (n .labels) ∙ found-is n t (s .pre .0) (s .pre .2) in
     let few : q .result .count ≤ 512 = leb-true (q .result .count) 512 (and-left (leb (q .result .count) 512) (eqb (t .queues) (q .result .count)) (c .before .before .before .before .before .before .before .before .before .before .before .before .before .if1 .taken)) in
     c .refused2 .ensures
     ∙ sym
@@ -88,11 +88,11 @@ refused-requires-3 c κs = search needs
 
 returns-3 : tie.Need-returns-3
 returns-3 c =
-    let s = c .before .before .before .before .before .before .before .before .before .before .before .before .before .before .before .before .before .before .before .before .before .before in
-    let n = s .args .net in
+    let s = c .before .before .before .before .before .before .before .before .before .before .before .before .before .before .before .before .before .before .before .before .before .before .before .before .before .before .before .before in
+    let n = s .args .t1 in
     let t = s .args .t2 in
-    let q = c .before .before .before .before .before .before .before .before .before .before .before .before .before .before .before .before .before .before .before .before .find-queues in
-    let f : q .result ≡ found n (t .part) = q .ensures ∙ found-is n t (s .pre .0) (s .pre .2) in
+    let q = c .before .before .before .before .before .before .before .before .before .before .before .before .before .before .before .before .before .before .before .before .find-queues-in in
+    let f : q .result ≡ found n (t .part) = q .ensures (n .width) (n .k) (n .label) (n .labels) ∙ found-is n t (s .pre .0) (s .pre .2) in
     let few : q .result .count ≤ 512 = leb-true (q .result .count) 512 (and-left (leb (q .result .count) 512) (eqb (t .queues) (q .result .count)) (c .before .before .before .before .before .before .before .before .before .before .before .before .before .before .before .before .before .before .before .if1 .taken)) in
     c .refused3 .ensures
     ∙ sym
@@ -108,11 +108,11 @@ refused-requires-4 c κs = search needs
 
 returns-4 : tie.Need-returns-4
 returns-4 c =
-    let s = c .before .before .before .before .before .before .before .before .before .before .before .before .before .before .before .before .before .before .before .before in
-    let n = s .args .net in
+    let s = c .before .before .before .before .before .before .before .before .before .before .before .before .before .before .before .before .before .before .before .before .before .before .before .before .before .before in
+    let n = s .args .t1 in
     let t = s .args .t2 in
-    let q = c .before .before .before .before .before .before .before .before .before .before .before .before .before .before .before .before .before .before .find-queues in
-    let f : q .result ≡ found n (t .part) = q .ensures ∙ found-is n t (s .pre .0) (s .pre .2) in
+    let q = c .before .before .before .before .before .before .before .before .before .before .before .before .before .before .before .before .before .before .find-queues-in in
+    let f : q .result ≡ found n (t .part) = q .ensures (n .width) (n .k) (n .label) (n .labels) ∙ found-is n t (s .pre .0) (s .pre .2) in
     let few : q .result .count ≤ 512 = leb-true (q .result .count) 512 (and-left (leb (q .result .count) 512) (eqb (t .queues) (q .result .count)) (c .before .before .before .before .before .before .before .before .before .before .before .before .before .before .before .before .before .if1 .taken)) in
     ap (λ r. record { answer = 0; place = 0; queues = r }) f
     ∙ sym
@@ -123,18 +123,18 @@ returns-4 c =
 
 returns-5 : tie.Need-returns-5
 returns-5 c =
-    let s = c .before .before .before .before in
-    let n = s .args .net in
+    let s = c .before .before .before .before .before .before .before .before .before .before in
+    let n = s .args .t1 in
     let t = s .args .t2 in
-    let q = c .before .before .find-queues in
-    let f : q .result ≡ found n (t .part) = q .ensures ∙ found-is n t (s .pre .0) (s .pre .2) in
+    let q = c .before .before .find-queues-in in
+    let f : q .result ≡ found n (t .part) = q .ensures (n .width) (n .k) (n .label) (n .labels) ∙ found-is n t (s .pre .0) (s .pre .2) in
     c .refused4 .ensures ∙ sym (checked-bad 9 0 _ _ _ (lit< tt) (depths-no n t (q .result) f (c .before .if1 .left)))
 
 pub check-queues-spec : {M : Type 1} → statement M
 check-queues-spec =
     tie.close
     (tie.spec
-    find-queues-requires
+    find-queues-in-requires
     check-depths-requires
     enum-known-depths
     refused-requires
