@@ -1,10 +1,14 @@
 // The plan of a network: what opening works out once and no call changes.
 ghost use mathlib.Core.Path.{_≡_};
 ghost use mathlib.Core.Bool.{cond};
+ghost use mathlib.Core.List.{List};
 ghost use Prim.Native.Nat.{ℕ, _%_, _<_, _≤_, min};
 ghost use lib.ListN.{getD};
 ghost use Rattle.base.specs.Lists.{fill};
 ghost use Rattle.codes.specs.Rows.{isIn};
+ghost use Rattle.netlist.specs.Netlists.{netWith};
+ghost use Rattle.queues.specs.Found.{queuesWith};
+ghost use Rattle.cut.specs.Cuts.{cutWith};
 ghost use Rattle.plans.specs.Plans.{tokenAt, readAt, spotOf, firstSpot, joinOf, rulesIn, planOf};
 
 // How many there are of each; the nodes' fields with where each operand is read (a node, 1,024 and its queue, or 1,536 for none); the queues' nodes, ends and
@@ -136,47 +140,93 @@ fn fill_join<'x>(width: &'x [u8; 1024], b: &'x [u16; 1024], n: usize, join: &mut
     }
 }
 
-// The plan of a netlist, its cut and its queues, for a cycle limit.
-pub fn make_plan(net: netlist::Netlist, cut: cut::Cut, queues: queues::Queues, limit: u32) -> Plan
-    ensures { λ r. ⌜ r ≡ planOf net cut queues limit ⌝ }
+// The plan of a netlist, its cut and its queues, for a cycle limit. What it hangs on is lent, so that nothing is copied but into the plan; the fields a, b, c of
+// the queues are called va, vb, vc here, and their number `count`.
+pub fn make_plan_in<'x>(
+    nodes: usize,
+    code: &'x [u8; 1024],
+    width: &'x [u8; 1024],
+    a: &'x [u16; 1024],
+    b: &'x [u16; 1024],
+    c: &'x [u16; 1024],
+    k: &'x [u32; 1024],
+    part: &'x [u8; 1024],
+    depth: &'x [u8; 512],
+    parts: usize,
+    count: usize,
+    inputs: usize,
+    channels: usize,
+    outputs: usize,
+    node: &'x [u16; 512],
+    from: &'x [u8; 512],
+    into: &'x [u8; 512],
+    input: &'x [u16; 1024],
+    va: &'x [u16; 1024],
+    vb: &'x [u16; 1024],
+    vc: &'x [u16; 1024],
+    limit: u32,
+) -> Plan
+    ensures { λ r. ⌜ ((m : ℕ) (o : List ℕ) (l : ℕ) (t : List ℕ) (p q h : ℕ) (u : List ℕ) → r ≡ planOf (netWith nodes (now (code .entry)) (now (width .entry)) (now (a .entry)) (now (b .entry)) (now (c .entry)) (now (k .entry)) m o l t) (cutWith p (now (part .entry)) q (now (depth .entry)) h u) (queuesWith parts count inputs channels outputs (now (node .entry)) (now (from .entry)) (now (into .entry)) (now (input .entry)) (now (va .entry)) (now (vb .entry)) (now (vc .entry))) limit) ⌝ }
 {
-    let n = base::least(net.nodes, 1024);
+    let n = base::least(nodes, 1024);
     let mut join = [0u8; 1024];
     let mut ra = [0u16; 1024];
     let mut rb = [0u16; 1024];
     let mut rc = [0u16; 1024];
-    fill_join(&net.width, &net.b, n, &mut join);
-    fill_first(&net.code, &net.a, &queues.a, &queues.input, n, &mut ra);
-    fill_spots(&net.code, &net.b, &queues.b, 1, n, &mut rb);
-    fill_spots(&net.code, &net.c, &queues.c, 2, n, &mut rc);
-    let code = net.code;
-    let width = net.width;
-    let k = net.k;
-    let part = cut.part;
-    let depth = cut.depth;
-    let node = queues.node;
-    let from = queues.from;
-    let into = queues.into;
+    fill_join(width, b, n, &mut join);
+    fill_first(code, a, va, input, n, &mut ra);
+    fill_spots(code, b, vb, 1, n, &mut rb);
+    fill_spots(code, c, vc, 2, n, &mut rc);
     Plan {
         limit,
-        nodes: net.nodes,
-        parts: queues.parts,
-        inputs: queues.inputs,
-        channels: queues.channels,
-        outputs: queues.outputs,
-        queues: queues.count,
-        rules: count_rules(queues.count, queues.inputs, queues.parts),
-        code,
-        width,
+        nodes,
+        parts,
+        inputs,
+        channels,
+        outputs,
+        queues: count,
+        rules: count_rules(count, inputs, parts),
+        code: *code,
+        width: *width,
         join,
-        k,
+        k: *k,
         ra,
         rb,
         rc,
-        part,
-        node,
-        from,
-        into,
-        depth,
+        part: *part,
+        node: *node,
+        from: *from,
+        into: *into,
+        depth: *depth,
     }
+}
+
+// The plan of a netlist, its cut and its queues, for a cycle limit.
+pub fn make_plan(net: netlist::Netlist, cut: cut::Cut, queues: queues::Queues, limit: u32) -> Plan
+    ensures { λ r. ⌜ r ≡ planOf net cut queues limit ⌝ }
+{
+    make_plan_in(
+        net.nodes,
+        &net.code,
+        &net.width,
+        &net.a,
+        &net.b,
+        &net.c,
+        &net.k,
+        &cut.part,
+        &cut.depth,
+        queues.parts,
+        queues.count,
+        queues.inputs,
+        queues.channels,
+        queues.outputs,
+        &queues.node,
+        &queues.from,
+        &queues.into,
+        &queues.input,
+        &queues.a,
+        &queues.b,
+        &queues.c,
+        limit,
+    )
 }

@@ -1,40 +1,17 @@
--- `plans::make_plan` meets its contract. The definition, field by field.
+-- `plans::make_plan` meets its contract. A netlist, a cut and queues are their fields.
 use borrow.Author.Needs.{needs}
-use Rattle.plans.proofs.Made.{made}
 use Rattle.plans.proofs.make_plan.Statement.{statement}
 use Rattle.plans.proofs.make_plan.Tie as tie
 
-least-requires : tie.Need-least-requires
-least-requires c κs = search needs
-
-fill-join-requires : tie.Need-fill-join-requires
-fill-join-requires c κs = search needs
-
-fill-first-requires : tie.Need-fill-first-requires
-fill-first-requires c κs = search needs
-
-fill-spots-requires : tie.Need-fill-spots-requires
-fill-spots-requires c κs = search needs
-
-fill-spots-requires-2 : tie.Need-fill-spots-requires-2
-fill-spots-requires-2 c κs = search needs
-
-count-rules-requires : tie.Need-count-rules-requires
-count-rules-requires c κs = search needs
+make-plan-in-requires : tie.Need-make-plan-in-requires
+make-plan-in-requires c κs = search needs
 
 returns : tie.Need-returns
 returns c =
-    let a = c .before .before .before .before .before .before .before .before .before .before .before .before .before .before .before .before .before .before .before .before .before .before .before .before .before .before .before .before .before .before .before .before .before .before .before .before .before .args in
-    made (a .t1) (a .cut) (a .t3) (a .limit) _ _ _ _ _ _ (c .before .before .before .before .before .before .before .before .before .before .before .before .before .before .before .before .before .before .before .before .before .before .before .before .before .before .before .before .before .before .before .before .before .before .before .before .least .ensures) (c .count-rules .ensures) (c .before .before .before .before .before .before .before .before .before .before .before .before .before .before .before .before .before .before .before .before .before .before .before .before .before .before .before .before .before .before .before .fill-join .ensures) (c .before .before .before .before .before .before .before .before .before .before .before .before .before .before .before .before .before .before .before .before .before .before .before .fill-first .ensures) (c .before .before .before .before .before .before .before .before .before .before .before .before .before .before .before .before .fill-spots .ensures) (c .before .before .before .before .before .before .before .before .before .fill-spots2 .ensures)
+    let a = c .before .before .before .before .before .before .before .before .before .before .before .before .before .before .before .before .before .before .before .args in
+    let n = a .t1 in
+    let k = a .t2 in
+    c .make-plan-in .ensures (n .outputs) (n .output) (n .labels) (n .label) (k .nodes) (k .queues) (k .labels) (k .label)
 
 pub make-plan-spec : {M : Type 1} → statement M
-make-plan-spec =
-    tie.close
-    (tie.spec
-    least-requires
-    fill-join-requires
-    fill-first-requires
-    fill-spots-requires
-    fill-spots-requires-2
-    count-rules-requires
-    returns)
+make-plan-spec = tie.close (tie.spec make-plan-in-requires returns)
