@@ -67,41 +67,56 @@ fn refused(answer: u32, place: usize) -> Opened
     }
 }
 
-// A fresh network: flags off, counts 0, registers at first values, queues empty and every one of the 8,192 places zero.
-fn fresh_network(net: netlist::Netlist) -> spots::Network
-    ensures { λ r. ⌜ r ≡ freshNetwork net ⌝ }
+// Opens a netlist that was read: the checks 7 to 11 on the cut sheet, then 15. The network is fresh: flags off, counts 0, registers at first values, queues empty
+// and every one of the 8,192 places zero.
+fn open_cut(net: netlist::Netlist, cut: &[u8], limit: u32) -> Opened
+    ensures { λ r. ⌜ r ≡ openedBy (readChecks net (now (cut .entry)) ++ limitChecks limit) (planFrom net (now (cut .entry)) limit) (freshNetwork net) ⌝ }
 {
+    let got = cut_sheet::read_cut(net, cut);
+    if got.answer != 0 {
+        return refused(got.answer, got.place);
+    }
+    if !((1 <= limit) & (limit <= 4000000000)) {
+        return refused(15, 0);
+    }
+    let plan = plans::make_plan_in(
+        net.nodes,
+        &net.code,
+        &net.width,
+        &net.a,
+        &net.b,
+        &net.c,
+        &net.k,
+        &got.cut.part,
+        &got.cut.depth,
+        got.queues.parts,
+        got.queues.count,
+        got.queues.inputs,
+        got.queues.channels,
+        got.queues.outputs,
+        &got.queues.node,
+        &got.queues.from,
+        &got.queues.into,
+        &got.queues.input,
+        &got.queues.a,
+        &got.queues.b,
+        &got.queues.c,
+        limit,
+    );
     let mut held = [0u32; 1024];
     cycles::first_registers_in(net.nodes, &net.code, &net.k, &mut held);
-    spots::Network {
+    let network = spots::Network {
         cells: [0; 8192],
         used: [0; 512],
         flag: [false; 512],
         held,
         count: [0; 32],
-    }
-}
-
-// Opens a netlist that was read: the checks 7 to 11 on the cut sheet, then 15.
-fn open_cut(net: netlist::Netlist, cut: &[u8], limit: u32) -> Opened
-    ensures { λ r. ⌜ r ≡ openedBy (readChecks net (now (cut .entry)) ++ limitChecks limit) (planFrom net (now (cut .entry)) limit) (freshNetwork net) ⌝ }
-{
-    let got = cut_sheet::read_cut(net, cut);
-    if got.answer == 0 {
-        if (1 <= limit) & (limit <= 4000000000) {
-            let plan = plans::make_plan(net, got.cut, got.queues, limit);
-            let network = fresh_network(net);
-            Opened {
-                answer: 0,
-                place: 0,
-                plan,
-                network,
-            }
-        } else {
-            refused(15, 0)
-        }
-    } else {
-        refused(got.answer, got.place)
+    };
+    Opened {
+        answer: 0,
+        place: 0,
+        plan,
+        network,
     }
 }
 
@@ -110,9 +125,8 @@ pub fn open(net: &[u8], cut: &[u8], limit: u32) -> Opened
     ensures { λ r. ⌜ r ≡ opened (now (net .entry)) (now (cut .entry)) limit ⌝ }
 {
     let read = net_sheet::read_net(net);
-    if read.answer == 0 {
-        open_cut(read.net, cut, limit)
-    } else {
-        refused(read.answer, read.place)
+    if read.answer != 0 {
+        return refused(read.answer, read.place);
     }
+    open_cut(read.net, cut, limit)
 }
