@@ -3,13 +3,17 @@ use mathlib.Core.Path.{_≡_, refl}
 use mathlib.Core.Bool.{Bool, true, false, cond}
 use mathlib.Core.List.{List}
 use mathlib.Core.Logic.{⊎-elim}
-use Prim.Native.Nat.{ℕ, zero, suc, _+_, _<_, _≤_}
+use Prim.Native.Nat.{ℕ, zero, suc, _+_, _*_, _<_, _≤_}
 use native.Mathlib.Nat.{le-of-suc-le-suc, eq-or-lt-of-le}
 use native.Mathlib.Numerals.{add-one}
 use native.Mathlib.Omega.{arith}
+use borrow.Author.Tests.{eqb-true}
 use lib.Dec.{eqb}
 use lib.ListN.{getD}
-use Rattle.cycles.specs.Inputs.{inFlag, insIn}
+use Rattle.base.specs.Checks.{every}
+use Rattle.base.proofs.Tests.{every-true}
+use Rattle.codes.specs.Rows.{isIn}
+use Rattle.cycles.specs.Inputs.{inFlag, insIn, fitsIn, fitsNode, allFitIn}
 
 pub ins-none : (code : List ℕ) → 0 ≡ insIn code 0
 unfolding insIn
@@ -46,3 +50,14 @@ ins-at code n i h e =
     let f : inFlag (getD code i 0) ≡ 1 = rw e in
     let s = ins-step code i in
     omega (arith, ins-more code n (i + 1) (omega arith))
+
+-- with no IN any values fit, for any number of cycles
+fits-none : (b : Bool) (w x : ℕ) → (b ≡ true → ⊥) → cond b (fitsIn w x) true ≡ true
+fits-none false w x h = refl
+fits-none true w x h = absurd (h refl)
+
+pub none-fit : (code width ins : List ℕ) (n per cycles : ℕ) → insIn code n ≡ 0 → every (λ t. allFitIn code width ins (t * per) n) cycles ≡ true
+none-fit code width ins n per cycles e =
+    every-true (λ t. allFitIn code width ins (t * per) n) cycles
+    (λ t u. every-true (λ i. fitsNode (getD code i 0) (getD width i 0) (getD ins (t * per + insIn code i) 0)) n
+    (λ i v. fits-none (isIn (getD code i 0)) (getD width i 0) (getD ins (t * per + insIn code i) 0) (λ z. omega (arith, ins-at code n i v (eqb-true (getD code i 0) 0 z)))))

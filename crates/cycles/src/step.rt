@@ -32,6 +32,25 @@ fn all_fit<'x>(
     true
 }
 
+// The same; where there is no IN there is nothing to look at, however many cycles there are.
+fn inputs_fit<'x>(
+    code: &'x [u8; 1024],
+    width: &'x [u8; 1024],
+    n: usize,
+    cycles: usize,
+    per: usize,
+    ins: &[u32],
+) -> bool
+    requires { ⌜ (n ≤ 1024) × (per ≡ insIn (now code) n) × (cycles * per ≤ length (now ins)) ⌝ }
+    ensures { λ r. ⌜ r ≡ every (λ t. allFitIn (now (code .entry)) (now (width .entry)) (now (ins .entry)) (t * per) n) cycles ⌝ }
+{
+    if per == 0 {
+        true
+    } else {
+        all_fit(code, width, n, cycles, per, ins)
+    }
+}
+
 // The cycles themselves, where nothing is refused.
 fn run_cycles<'x>(
     code: &'x [u8; 1024],
@@ -91,7 +110,7 @@ pub fn steps_in<'x>(
     if ins.len() != t * per {
         return 12;
     }
-    if !all_fit(code, width, nodes, t, per, ins) {
+    if !inputs_fit(code, width, nodes, t, per, ins) {
         return 13;
     }
     if outs.len() < t * outputs {

@@ -16,13 +16,7 @@ fn low_bits(x: u32, w: u8) -> u32
 fn parity(x: u32) -> u32
     ensures { λ r. ⌜ r ≡ ones x % 2 ⌝ }
 {
-    let mut rest = x;
-    let mut odd = 0u32;
-    while 0 < rest {
-        odd = (odd + rest % 2) % 2;
-        rest = rest / 2;
-    }
-    odd
+    u32::count_ones(x) % 2
 }
 
 // CONST; IN and REG, whose values the state holds, give 0 here.
@@ -107,12 +101,28 @@ fn wired(code: u8, v: u8, k: u32, x: u32, y: u32, z: u32) -> u32
     }
 }
 
-// By the range of the code, not yet reduced to w bits.
+// By the range of the code, not yet reduced to w bits. The codes that compute stand in front, each by itself, so that one jump finds any of them.
 fn coded(code: u8, w: u8, v: u8, k: u32, x: u32, y: u32, z: u32) -> u32
     requires { ⌜ (w ≤ 32) × (v ≤ 32) ⌝ }
     ensures { λ r. ⌜ low w r ≡ low w (codeOf code w v k x y z) ⌝ }
 {
     match code {
+        0x10 => unary(0x10, w, x),
+        0x11 => unary(0x11, w, x),
+        0x12 => unary(0x12, w, x),
+        0x13 => unary(0x13, w, x),
+        0x20 => binary(0x20, w, x, y),
+        0x21 => binary(0x21, w, x, y),
+        0x22 => binary(0x22, w, x, y),
+        0x23 => binary(0x23, w, x, y),
+        0x24 => binary(0x24, w, x, y),
+        0x30 => compared(0x30, x, y),
+        0x31 => compared(0x31, x, y),
+        0x40 => shifted(0x40, x, y),
+        0x41 => shifted(0x41, x, y),
+        0x50 => wired(0x50, v, k, x, y, z),
+        0x51 => wired(0x51, v, k, x, y, z),
+        0x52 => wired(0x52, v, k, x, y, z),
         0x00..=0x0F => constant(code, k),
         0x10..=0x1F => unary(code, w, x),
         0x20..=0x2F => binary(code, w, x, y),

@@ -44,15 +44,15 @@ returns-3 c =
     let N = netIn (a .nodes) (now (a .code)) (now (a .width)) (now (a .a)) (now (a .b)) (now (a .c)) (now (a .k)) (a .outputs) (now (a .output)) in
     λ g rg. refused-12 N (now (a .regs)) (a .cycles) (now (a .ins)) (now (a .outs)) (λ e. c .if3 .taken (e ∙ ap (λ k. a .cycles * k) (sym (c .before .count-ins .ensures))))
 
-all-fit-requires : tie.Need-all-fit-requires
-all-fit-requires c κs = search needs
+inputs-fit-requires : tie.Need-inputs-fit-requires
+inputs-fit-requires c κs = search needs
 
 returns-4 : tie.Need-returns-4
 returns-4 c =
     let s = c .before .before .before .before .before .before .before .before in
     let a = s .args in
     let N = netIn (a .nodes) (now (a .code)) (now (a .width)) (now (a .a)) (now (a .b)) (now (a .c)) (now (a .k)) (a .outputs) (now (a .output)) in
-    λ g rg. refused-13 N (now (a .regs)) (a .cycles) (now (a .ins)) (now (a .outs)) (c .before .before .if3 .left ∙ ap (λ k. a .cycles * k) (c .before .before .before .count-ins .ensures)) (ap (λ k. every (λ t. allFitIn (now (a .code)) (now (a .width)) (now (a .ins)) (t * k) (a .nodes)) (a .cycles)) (sym (c .before .before .before .count-ins .ensures)) ∙ sym (c .before .all-fit .ensures) ∙ not-true _ (c .if4 .taken))
+    λ g rg. refused-13 N (now (a .regs)) (a .cycles) (now (a .ins)) (now (a .outs)) (c .before .before .if3 .left ∙ ap (λ k. a .cycles * k) (c .before .before .before .count-ins .ensures)) (ap (λ k. every (λ t. allFitIn (now (a .code)) (now (a .width)) (now (a .ins)) (t * k) (a .nodes)) (a .cycles)) (sym (c .before .before .before .count-ins .ensures)) ∙ sym (c .before .inputs-fit .ensures) ∙ not-true _ (c .if4 .taken))
 
 mul-if5 : tie.Need-mul-if5
 mul-if5 c =
@@ -64,7 +64,7 @@ returns-5 c =
     let s = c .before .before .before .before .before .before .before .before .before in
     let a = s .args in
     let N = netIn (a .nodes) (now (a .code)) (now (a .width)) (now (a .a)) (now (a .b)) (now (a .c)) (now (a .k)) (a .outputs) (now (a .output)) in
-    λ g rg. refused-16 N (now (a .regs)) (a .cycles) (now (a .ins)) (now (a .outs)) (c .before .before .before .if3 .left ∙ ap (λ k. a .cycles * k) (c .before .before .before .before .count-ins .ensures)) (ap (λ k. every (λ t. allFitIn (now (a .code)) (now (a .width)) (now (a .ins)) (t * k) (a .nodes)) (a .cycles)) (sym (c .before .before .before .before .count-ins .ensures)) ∙ sym (c .before .before .all-fit .ensures) ∙ not-false _ (c .before .if4 .left)) (c .if5 .taken)
+    λ g rg. refused-16 N (now (a .regs)) (a .cycles) (now (a .ins)) (now (a .outs)) (c .before .before .before .if3 .left ∙ ap (λ k. a .cycles * k) (c .before .before .before .before .count-ins .ensures)) (ap (λ k. every (λ t. allFitIn (now (a .code)) (now (a .width)) (now (a .ins)) (t * k) (a .nodes)) (a .cycles)) (sym (c .before .before .before .before .count-ins .ensures)) ∙ sym (c .before .before .inputs-fit .ensures) ∙ not-false _ (c .before .if4 .left)) (c .if5 .taken)
 
 run-cycles-requires : tie.Need-run-cycles-requires
 run-cycles-requires c κs = search needs
@@ -77,7 +77,7 @@ returns-6 c =
     let s = c .before .before .before .before .before .before .before .before .before .before .before .before .before .before in
     let a = s .args in
     let N = netIn (a .nodes) (now (a .code)) (now (a .width)) (now (a .a)) (now (a .b)) (now (a .c)) (now (a .k)) (a .outputs) (now (a .output)) in
-    λ g rg. all-done N (now (a .regs)) (a .cycles) (now (a .ins)) (now (a .outs)) _ _ (c .before .before .before .before .before .before .before .before .if3 .left ∙ ap (λ k. a .cycles * k) (c .before .before .before .before .before .before .before .before .before .count-ins .ensures)) (ap (λ k. every (λ t. allFitIn (now (a .code)) (now (a .width)) (now (a .ins)) (t * k) (a .nodes)) (a .cycles)) (sym (c .before .before .before .before .before .before .before .before .before .count-ins .ensures)) ∙ sym (c .before .before .before .before .before .before .before .all-fit .ensures) ∙ not-false _ (c .before .before .before .before .before .before .if4 .left)) (c .before .before .before .before .before .if5 .left) (c .before .before .run-cycles .ensures g rg)
+    λ g rg. all-done N (now (a .regs)) (a .cycles) (now (a .ins)) (now (a .outs)) _ _ (c .before .before .before .before .before .before .before .before .if3 .left ∙ ap (λ k. a .cycles * k) (c .before .before .before .before .before .before .before .before .before .count-ins .ensures)) (ap (λ k. every (λ t. allFitIn (now (a .code)) (now (a .width)) (now (a .ins)) (t * k) (a .nodes)) (a .cycles)) (sym (c .before .before .before .before .before .before .before .before .before .count-ins .ensures)) ∙ sym (c .before .before .before .before .before .before .before .inputs-fit .ensures) ∙ not-false _ (c .before .before .before .before .before .before .if4 .left)) (c .before .before .before .before .before .if5 .left) (c .before .before .run-cycles .ensures g rg)
 
 pub steps-in-spec : {M : Type 1} → statement M
 steps-in-spec =
@@ -88,7 +88,7 @@ steps-in-spec =
     count-ins-requires
     mul-if3
     returns-3
-    all-fit-requires
+    inputs-fit-requires
     returns-4
     mul-if5
     returns-5
