@@ -3,7 +3,7 @@ pub mod Exists
 pub mod Accepted
 pub mod Below
 pub mod Meaning
-pub mod Ins
+pub mod Listed
 pub mod Passes
 pub mod Arity
 pub mod Solved

@@ -3,6 +3,7 @@ pub mod Netlists
 pub mod Meaning
 pub mod Inputs
 pub mod Pass
+pub mod Listed
 pub mod Steps
 pub mod Stepping
 pub mod Bench

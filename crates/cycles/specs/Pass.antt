@@ -40,9 +40,13 @@ unfoldable pub evals : Fields → List ℕ → List ℕ → ℕ → ℕ → List
 evals F regs ins m zero vals = vals
 evals F regs ins m (suc n) vals = set (evals F regs ins m n vals) n (nodeNow F regs ins (m + insIn (F .code) n) (evals F regs ins m n vals) n)
 
--- a register's next value
-abbrev pub nextIn : List ℕ → List ℕ → List ℕ → ℕ → ℕ
-nextIn code a vals i = cond (isReg (getD code i 0)) (getD vals (inside (getD a i 0)) 0) 0
+-- the same where INs and REGs have their values already: they keep them
+unfoldable pub nodeKept : Fields → List ℕ → ℕ → ℕ
+nodeKept F vals i = cond (isIn (getD (F .code) i 0)) (getD vals i 0) (cond (isReg (getD (F .code) i 0)) (getD vals i 0) (nodeIn F vals i))
+
+unfoldable pub computed : Fields → ℕ → List ℕ → List ℕ
+computed F zero vals = vals
+computed F (suc n) vals = set (computed F n vals) n (nodeKept F (computed F n vals) n)
 
 -- n elements from place m on are those of f, the rest as they were
 unfoldable pub fillFrom : ℕ → (ℕ → ℕ) → ℕ → List ℕ → List ℕ

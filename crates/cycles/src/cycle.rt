@@ -1,21 +1,51 @@
-// One cycle on lent arrays: every node's value, each once; then the outputs; then all registers together.
+// One cycle on lent arrays: the INs and REGs take their values, by their lists, and every other node follows, each once; then the outputs; then all registers together.
 ghost use mathlib.Core.Path.{_≡_};
 ghost use mathlib.Core.Bool.{cond};
 ghost use Prim.Native.Nat.{ℕ, _+_, _*_, _<_, _≤_};
 ghost use lib.ListN.{length, getD};
-ghost use Rattle.base.specs.Lists.{fill};
 ghost use Rattle.codes.specs.Rows.{isReg};
-ghost use Rattle.cycles.specs.Inputs.{insIn};
-ghost use Rattle.cycles.specs.Pass.{mk, inside, nodeNow, evals, nextIn, fillFrom};
+ghost use Rattle.cycles.specs.Listed.{puts, inputAt, heldBy, nextBy};
+ghost use Rattle.cycles.specs.Pass.{mk, inside, nodeKept, computed, fillFrom};
 
 // A stored number as an index: within its array whatever it is.
-fn inside_of(x: u16) -> usize
+pub fn inside_of(x: u16) -> usize
     ensures { λ r. ⌜ (r ≡ inside x) × (r < 1024) ⌝ }
 {
     (x % 1024) as usize
 }
 
-// The value of node i, where the values of its operands stand in `vals`: an IN's is at place j of the inputs, a REG's in the registers.
+// The INs of a list take the inputs from place `at` on.
+pub fn put_inputs(list: &[u16; 1024], per: usize, ins: &[u32], at: usize, vals: &mut [u32; 1024])
+    requires { ⌜ (per ≤ 1024) × (at + per ≤ length (now ins)) ⌝ }
+    ensures { λ _. ⌜ now (vals .exit) ≡ puts (now (list .entry)) (inputAt (now (ins .entry)) at) per (now (vals .entry)) ⌝ }
+{
+    let mut j = 0;
+    while j < per {
+        let i = inside_of(list[j]);
+        vals[i] = ins[at + j];
+        j += 1;
+    }
+}
+
+// The REGs of a list take what they hold.
+pub fn put_held<'x>(
+    list: &'x [u16; 1024],
+    held: usize,
+    regs: &'x [u32; 1024],
+    vals: &mut [u32; 1024],
+)
+    requires { ⌜ held ≤ 1024 ⌝ }
+    ensures { λ _. ⌜ now (vals .exit) ≡ puts (now (list .entry)) (heldBy (now (list .entry)) (now (regs .entry))) held (now (vals .entry)) ⌝ }
+{
+    let mut j = 0;
+    while j < held {
+        let i = inside_of(list[j]);
+        vals[i] = regs[i];
+        j += 1;
+    }
+}
+
+// The value of node i, where those of its operands stand in `vals`, and its own where it is an IN or a REG.
 fn node_now<'x>(
     code: &'x [u8; 1024],
     width: &'x [u8; 1024],
@@ -23,21 +53,18 @@ fn node_now<'x>(
     b: &'x [u16; 1024],
     c: &'x [u16; 1024],
     k: &'x [u32; 1024],
-    regs: &[u32; 1024],
-    ins: &[u32],
-    j: usize,
     vals: &[u32; 1024],
     i: usize,
 ) -> u32
-    requires { ⌜ (i < 1024) × (getD (now code) i 0 ≡ 0 → j < length (now ins)) ⌝ }
-    ensures { λ r. ⌜ r ≡ nodeNow (mk (now (code .entry)) (now (width .entry)) (now (a .entry)) (now (b .entry)) (now (c .entry)) (now (k .entry))) (now (regs .entry)) (now (ins .entry)) j (now (vals .entry)) i ⌝ }
+    requires { ⌜ i < 1024 ⌝ }
+    ensures { λ r. ⌜ r ≡ nodeKept (mk (now (code .entry)) (now (width .entry)) (now (a .entry)) (now (b .entry)) (now (c .entry)) (now (k .entry))) (now (vals .entry)) i ⌝ }
 {
     let kind = code[i];
     if kind == 0x00 {
-        return ins[j];
+        return vals[i];
     }
     if kind == 0x02 {
-        return regs[i];
+        return vals[i];
     }
     let p = inside_of(a[i]);
     let q = inside_of(b[i]);
@@ -45,7 +72,7 @@ fn node_now<'x>(
     values::node_value(kind, width[i], width[q], k[i], vals[p], vals[q], vals[s])
 }
 
-// The values of the first n nodes, in their order; the inputs stand from place `at` on.
+// The values of the first n nodes, in their order, where those of the INs and the REGs stand in `vals`.
 pub fn evaluate<'x>(
     code: &'x [u8; 1024],
     width: &'x [u8; 1024],
@@ -54,20 +81,15 @@ pub fn evaluate<'x>(
     c: &'x [u16; 1024],
     k: &'x [u32; 1024],
     n: usize,
-    regs: &[u32; 1024],
-    ins: &[u32],
-    at: usize,
     vals: &mut [u32; 1024],
 )
-    requires { ⌜ (n ≤ 1024) × (at + insIn (now code) n ≤ length (now ins)) ⌝ }
-    ensures { λ _. ⌜ now (vals .exit) ≡ evals (mk (now (code .entry)) (now (width .entry)) (now (a .entry)) (now (b .entry)) (now (c .entry)) (now (k .entry))) (now (regs .entry)) (now (ins .entry)) at n (now (vals .entry)) ⌝ }
+    requires { ⌜ n ≤ 1024 ⌝ }
+    ensures { λ _. ⌜ now (vals .exit) ≡ computed (mk (now (code .entry)) (now (width .entry)) (now (a .entry)) (now (b .entry)) (now (c .entry)) (now (k .entry))) n (now (vals .entry)) ⌝ }
 {
-    let mut j = at;
     let mut i = 0;
     while i < n {
-        let x = node_now(code, width, a, b, c, k, regs, ins, j, vals, i);
+        let x = node_now(code, width, a, b, c, k, vals, i);
         vals[i] = x;
-        j += crate::inputs::is_in(code[i]);
         i += 1;
     }
 }
@@ -94,19 +116,20 @@ pub fn next_of(code: u8, x: u32) -> u32
 
 // All registers change together: each takes its operand's value of this cycle.
 pub fn change_registers<'x>(
-    code: &'x [u8; 1024],
     a: &'x [u16; 1024],
-    n: usize,
+    list: &'x [u16; 1024],
+    held: usize,
     vals: &[u32; 1024],
     regs: &mut [u32; 1024],
 )
-    requires { ⌜ n ≤ 1024 ⌝ }
-    ensures { λ _. ⌜ now (regs .exit) ≡ fill (nextIn (now (code .entry)) (now (a .entry)) (now (vals .entry))) n (now (regs .entry)) ⌝ }
+    requires { ⌜ held ≤ 1024 ⌝ }
+    ensures { λ _. ⌜ now (regs .exit) ≡ puts (now (list .entry)) (nextBy (now (list .entry)) (now (a .entry)) (now (vals .entry))) held (now (regs .entry)) ⌝ }
 {
-    let mut i = 0;
-    while i < n {
+    let mut j = 0;
+    while j < held {
+        let i = inside_of(list[j]);
         let p = inside_of(a[i]);
-        regs[i] = next_of(code[i], vals[p]);
-        i += 1;
+        regs[i] = vals[p];
+        j += 1;
     }
 }

@@ -6,25 +6,24 @@ ghost use lib.ListN.{length, getD, replicate};
 ghost use Rattle.base.specs.Checks.{every, AllGood};
 ghost use Rattle.base.specs.Lists.{fill};
 ghost use Rattle.netlist.specs.Checks.{netChecks};
-ghost use Rattle.cycles.specs.Inputs.{insIn, allFitIn};
+ghost use Rattle.cycles.specs.Listed.{foundIn, Listed, listFits};
 ghost use Rattle.codes.specs.Rows.{isReg};
 ghost use Rattle.cycles.specs.Steps.{netIn, Registers, Cycles, registersAfter, outputsAfter, StepsPromise};
 
-// Whether the inputs of every one of so many cycles fit.
+// Whether the inputs of every one of so many cycles fit the INs of a list.
 fn all_fit<'x>(
-    code: &'x [u8; 1024],
     width: &'x [u8; 1024],
-    n: usize,
+    list: &'x [u16; 1024],
     cycles: usize,
     per: usize,
     ins: &[u32],
 ) -> bool
-    requires { ⌜ (n ≤ 1024) × (per ≡ insIn (now code) n) × (cycles * per ≤ length (now ins)) ⌝ }
-    ensures { λ r. ⌜ r ≡ every (λ t. allFitIn (now (code .entry)) (now (width .entry)) (now (ins .entry)) (t * per) n) cycles ⌝ }
+    requires { ⌜ (per ≤ 1024) × (cycles * per ≤ length (now ins)) ⌝ }
+    ensures { λ r. ⌜ r ≡ every (λ t. listFits (now (width .entry)) (now (list .entry)) (now (ins .entry)) (t * per) per) cycles ⌝ }
 {
     let mut t = 0;
     while t < cycles {
-        if !crate::inputs::cycle_fits(code, width, n, ins, t * per) {
+        if !crate::inputs::cycle_fits(width, list, per, ins, t * per) {
             return false;
         }
         t += 1;
@@ -32,22 +31,21 @@ fn all_fit<'x>(
     true
 }
 
-// The same; where there is no IN there is nothing to look at, however many cycles there are.
+// The same, and at once where the list has no IN, however many cycles there are.
 fn inputs_fit<'x>(
-    code: &'x [u8; 1024],
     width: &'x [u8; 1024],
-    n: usize,
+    list: &'x [u16; 1024],
     cycles: usize,
     per: usize,
     ins: &[u32],
 ) -> bool
-    requires { ⌜ (n ≤ 1024) × (per ≡ insIn (now code) n) × (cycles * per ≤ length (now ins)) ⌝ }
-    ensures { λ r. ⌜ r ≡ every (λ t. allFitIn (now (code .entry)) (now (width .entry)) (now (ins .entry)) (t * per) n) cycles ⌝ }
+    requires { ⌜ (per ≤ 1024) × (cycles * per ≤ length (now ins)) ⌝ }
+    ensures { λ r. ⌜ r ≡ every (λ t. listFits (now (width .entry)) (now (list .entry)) (now (ins .entry)) (t * per) per) cycles ⌝ }
 {
     if per == 0 {
         true
     } else {
-        all_fit(code, width, n, cycles, per, ins)
+        all_fit(width, list, cycles, per, ins)
     }
 }
 
@@ -64,19 +62,24 @@ fn run_cycles<'x>(
     m: usize,
     regs: &mut [u32; 1024],
     cycles: usize,
+    list: &[u16; 1024],
     per: usize,
     ins: &[u32],
     outs: &mut [u32],
 )
-    requires { ⌜ (n ≤ 1024) × (m ≤ 64) × (per ≡ insIn (now code) n) × (cycles * per ≤ length (now ins)) × (cycles * m ≤ length (now outs)) ⌝ }
+    requires { ⌜ (n ≤ 1024) × (m ≤ 64) × (per ≡ foundIn 0 (now code) n) × Listed 0 (now code) n (now list) × (cycles * per ≤ length (now ins)) × (cycles * m ≤ length (now outs)) ⌝ }
     ensures { λ _. ⌜ (AllGood (netChecks (netIn n (now (code .entry)) (now (width .entry)) (now (a .entry)) (now (b .entry)) (now (c .entry)) (now (k .entry)) m (now (output .entry)))) → Registers (netIn n (now (code .entry)) (now (width .entry)) (now (a .entry)) (now (b .entry)) (now (c .entry)) (now (k .entry)) m (now (output .entry))) (now (regs .entry)) → (v : ℕ → ℕ → ℕ) → Cycles (netIn n (now (code .entry)) (now (width .entry)) (now (a .entry)) (now (b .entry)) (now (c .entry)) (now (k .entry)) m (now (output .entry))) (now (regs .entry)) (now (ins .entry)) cycles v → (now (regs .exit) ≡ registersAfter (netIn n (now (code .entry)) (now (width .entry)) (now (a .entry)) (now (b .entry)) (now (c .entry)) (now (k .entry)) m (now (output .entry))) (now (regs .entry)) v cycles) × (now (outs .exit) ≡ outputsAfter (netIn n (now (code .entry)) (now (width .entry)) (now (a .entry)) (now (b .entry)) (now (c .entry)) (now (k .entry)) m (now (output .entry))) v (now (outs .entry)) cycles)) ⌝ }
 {
+    let mut holding = [0u16; 1024];
+    let held = crate::nodes::list_of(code, n, 0x02, &mut holding);
     let mut vals = [0u32; 1024];
     let mut t = 0;
     while t < cycles {
-        crate::cycle::evaluate(code, width, a, b, c, k, n, regs, ins, t * per, &mut vals);
+        crate::cycle::put_inputs(list, per, ins, t * per, &mut vals);
+        crate::cycle::put_held(&holding, held, regs, &mut vals);
+        crate::cycle::evaluate(code, width, a, b, c, k, n, &mut vals);
         crate::cycle::put_values(output, m, &vals, outs, t * m);
-        crate::cycle::change_registers(code, a, n, &vals, regs);
+        crate::cycle::change_registers(a, &holding, held, &vals, regs);
         t += 1;
     }
 }
@@ -106,11 +109,12 @@ pub fn steps_in<'x>(
         return 12;
     }
     let t = cycles as usize;
-    let per = crate::inputs::count_ins(code, nodes);
+    let mut list = [0u16; 1024];
+    let per = crate::nodes::list_of(code, nodes, 0x00, &mut list);
     if ins.len() != t * per {
         return 12;
     }
-    if !inputs_fit(code, width, nodes, t, per, ins) {
+    if !inputs_fit(width, &list, t, per, ins) {
         return 13;
     }
     if outs.len() < t * outputs {
@@ -128,6 +132,7 @@ pub fn steps_in<'x>(
         outputs,
         regs,
         t,
+        &list,
         per,
         ins,
         outs,

@@ -1,10 +1,10 @@
 -- `cycles::cycle::node_now` meets its contract. The definition's cases in its order; stored operands are taken within their arrays.
 use native.Mathlib.Omega.{arith}
 use borrow.Author.Tests.{eq-eqb, ne-eqb}
-use borrow.Author.Needs.{needs}
 use denote.Ref.{now}
 use lib.ListN.{getD}
-use Rattle.cycles.specs.Pass.{nodeIn, nodeNow}
+use Rattle.cycles.specs.Pass.{nodeIn, nodeKept}
+use borrow.Author.Needs.{needs}
 use Rattle.cycles.proofs.cycle.node_now.Statement.{statement}
 use Rattle.cycles.proofs.cycle.node_now.Tie as tie
 
@@ -12,30 +12,27 @@ element-copy-out-kind : tie.Need-element-copy-out-kind
 element-copy-out-kind c = search needs
 
 mul-result : tie.Need-mul-result
-mul-result c =
-    let s = c .before .before .before in
-    let h = s .pre .1 (c .if1 .taken) in
-    omega (arith, s .good)
+mul-result c = search needs
 
-shared-slice-read-result : tie.Need-shared-slice-read-result
-shared-slice-read-result c = c .before .before .before .before .pre .1 (c .before .if1 .taken)
+element-copy-out-result : tie.Need-element-copy-out-result
+element-copy-out-result c = search needs
 
 returns : tie.Need-returns
-unfolding nodeNow
+unfolding nodeKept
 returns c =
-    let a = c .before .before .before .before .args in
+    let a = c .before .before .before .args in
     rw (eq-eqb (getD (now (a .code)) (a .i) 0) 0 (c .before .if1 .taken))
 
 mul-result-2 : tie.Need-mul-result-2
 mul-result-2 c = search needs
 
-element-copy-out-result : tie.Need-element-copy-out-result
-element-copy-out-result c = search needs
+element-copy-out-result-2 : tie.Need-element-copy-out-result-2
+element-copy-out-result-2 c = search needs
 
 returns-2 : tie.Need-returns-2
-unfolding nodeNow
+unfolding nodeKept
 returns-2 c =
-    let a = c .before .before .before .before .before .args in
+    let a = c .before .before .before .before .args in
     rw (ne-eqb (getD (now (a .code)) (a .i) 0) 0 (c .before .before .if1 .left), eq-eqb (getD (now (a .code)) (a .i) 0) 2 (c .before .if2 .taken))
 
 mul-inside-of : tie.Need-mul-inside-of
@@ -99,14 +96,12 @@ node-value-requires : tie.Need-node-value-requires
 node-value-requires c κs = search needs
 
 returns-3 : tie.Need-returns-3
-unfolding nodeNow nodeIn
+unfolding nodeKept nodeIn
 returns-3 c =
-    let s = c .before .before .before .before .before .before .before .before .before .before .before .before .before .before .before .before .before in
-    let a = s .args in
-    let e = c .before .before .before .before .before .before .before .before .before .before .before .before .before in
+    let a = c .before .before .before .before .before .before .before .before .before .before .before .before .before .before .before .before .args in
     rw (
-      ne-eqb (getD (now (a .code)) (a .i) 0) 0 (e .before .if1 .left),
-      ne-eqb (getD (now (a .code)) (a .i) 0) 2 (e .if2 .left),
+      ne-eqb (getD (now (a .code)) (a .i) 0) 0 (c .before .before .before .before .before .before .before .before .before .before .before .before .before .before .if1 .left),
+      ne-eqb (getD (now (a .code)) (a .i) 0) 2 (c .before .before .before .before .before .before .before .before .before .before .before .before .before .if2 .left),
       ← c .before .before .before .before .before .before .before .before .before .before .before .inside-of .ensures .0,
       ← c .before .before .before .before .before .before .before .before .before .inside-of2 .ensures .0,
       ← c .before .before .before .before .before .before .before .inside-of3 .ensures .0,
@@ -119,10 +114,10 @@ node-now-spec =
     (tie.spec
     element-copy-out-kind
     mul-result
-    shared-slice-read-result
+    element-copy-out-result
     returns
     mul-result-2
-    element-copy-out-result
+    element-copy-out-result-2
     returns-2
     mul-inside-of
     element-copy-out-inside-of

@@ -8,15 +8,15 @@ use borrow.Author.Needs.{needs}
 use borrow.Author.Tests.{not-true, not-false}
 use Rattle.base.specs.Checks.{every}
 use Rattle.base.proofs.Tests.{every-false, every-step}
-use Rattle.cycles.specs.Inputs.{allFitIn}
+use Rattle.cycles.specs.Listed.{listFits}
 use Rattle.cycles.proofs.step.all_fit.Statement.{statement}
 use Rattle.cycles.proofs.step.all_fit.Tie as tie
 
 abbrev Inv-loop : tie.InvT-loop
-Inv-loop code width n cycles per ins t₀ t = (t ≤ cycles) × (every (λ m. allFitIn code width ins (m * per) n) t ≡ true)
+Inv-loop width list cycles per ins t₀ t = (t ≤ cycles) × (every (λ m. listFits width list ins (m * per) per) t ≡ true)
 
 abbrev μ-loop : tie.MeasureT-loop
-μ-loop code width n cycles per ins t₀ t = cycles - t
+μ-loop width list cycles per ins t₀ t = cycles - t
 
 loop-holds : tie.Need-loop-holds Inv-loop μ-loop
 loop-holds c = (search needs, refl)
@@ -27,7 +27,7 @@ mul-cycle-fits c =
     let a = s .before .before .args in
     let p = s .before .before .pre in
     let v = s .loop in
-    omega (arith, p .2, mul-le-mul-right {m = v .t} {n = a .cycles} (a .per) (omega arith), s .before .before .good)
+    omega (arith, p .1, mul-le-mul-right {m = v .t} {n = a .cycles} (a .per) (omega arith), s .before .before .good)
 
 cycle-fits-requires : tie.Need-cycle-fits-requires Inv-loop μ-loop
 cycle-fits-requires c κs =
@@ -35,7 +35,7 @@ cycle-fits-requires c κs =
     let a = s .before .before .args in
     let p = s .before .before .pre in
     let v = s .loop in
-    (p .0, omega (arith, p .1, p .2, suc-mul (v .t) (a .per), mul-le-mul-right {m = suc (v .t)} {n = a .cycles} (a .per) (c .loop-test .taken)))
+    (p .0, omega (arith, p .1, suc-mul (v .t) (a .per), mul-le-mul-right {m = suc (v .t)} {n = a .cycles} (a .per) (c .loop-test .taken)))
 
 returns : tie.Need-returns Inv-loop μ-loop
 returns c =

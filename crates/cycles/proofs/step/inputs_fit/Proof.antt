@@ -1,7 +1,7 @@
 -- `cycles::step::inputs_fit` meets its contract: with no IN any values fit.
-use mathlib.Core.Path.{sym, _∙_}
+use mathlib.Core.Path.{_≡_, refl, sym}
 use denote.Ref.{now}
-use Rattle.cycles.proofs.Ins.{none-fit}
+use Rattle.base.proofs.Tests.{every-true}
 use borrow.Author.Needs.{needs}
 use Rattle.cycles.proofs.step.inputs_fit.Statement.{statement}
 use Rattle.cycles.proofs.step.inputs_fit.Tie as tie
@@ -12,7 +12,7 @@ all-fit-requires c κs = search needs
 returns : tie.Need-returns
 returns c =
     let a = c .before .before .args in
-    sym (none-fit (now (a .code)) (now (a .width)) (now (a .ins)) (a .n) (a .per) (a .cycles) (sym (c .before .before .pre .1) ∙ c .if1 .taken))
+    sym (every-true _ (a .cycles) (λ t l. rw (c .if1 .taken) refl))
 
 returns-2 : tie.Need-returns-2
 returns-2 c = search needs
