@@ -2,7 +2,7 @@
 ghost use mathlib.Core.Path.{_≡_};
 ghost use Prim.Native.Nat.{_+_, _*_, _%_, _^_, _≤_};
 ghost use lib.Count.{ones};
-ghost use Rattle.values.specs.Values.{low, constantOf, oneOf, twoOf, comparedOf, shiftedOf, wiredOf, codeOf, valueOf};
+ghost use Rattle.values.specs.Values.{low, oneOf, twoOf, comparedOf, shiftedOf, wiredOf, codeOf, valueOf};
 
 // x in w bits.
 fn low_bits(x: u32, w: u8) -> u32
@@ -17,16 +17,6 @@ fn parity(x: u32) -> u32
     ensures { λ r. ⌜ r ≡ ones x % 2 ⌝ }
 {
     u32::count_ones(x) % 2
-}
-
-// CONST; IN and REG, whose values the state holds, give 0 here.
-fn constant(code: u8, k: u32) -> u32
-    ensures { λ r. ⌜ r ≡ constantOf code k ⌝ }
-{
-    match code {
-        0x01 => k,
-        _ => 0,
-    }
 }
 
 // The codes of one operand, not yet reduced to w bits.
@@ -101,12 +91,13 @@ fn wired(code: u8, v: u8, k: u32, x: u32, y: u32, z: u32) -> u32
     }
 }
 
-// By the range of the code, not yet reduced to w bits. The codes that compute stand in front, each by itself, so that one jump finds any of them.
+// By the code, not yet reduced to w bits; IN and REG, whose values the state holds, give 0 here. One flat choice, so that one jump finds any code.
 fn coded(code: u8, w: u8, v: u8, k: u32, x: u32, y: u32, z: u32) -> u32
     requires { ⌜ (w ≤ 32) × (v ≤ 32) ⌝ }
     ensures { λ r. ⌜ low w r ≡ low w (codeOf code w v k x y z) ⌝ }
 {
     match code {
+        0x01 => k,
         0x10 => unary(0x10, w, x),
         0x11 => unary(0x11, w, x),
         0x12 => unary(0x12, w, x),
@@ -123,12 +114,7 @@ fn coded(code: u8, w: u8, v: u8, k: u32, x: u32, y: u32, z: u32) -> u32
         0x50 => wired(0x50, v, k, x, y, z),
         0x51 => wired(0x51, v, k, x, y, z),
         0x52 => wired(0x52, v, k, x, y, z),
-        0x00..=0x0F => constant(code, k),
-        0x10..=0x1F => unary(code, w, x),
-        0x20..=0x2F => binary(code, w, x, y),
-        0x30..=0x3F => compared(code, x, y),
-        0x40..=0x4F => shifted(code, x, y),
-        _ => wired(code, v, k, x, y, z),
+        _ => 0,
     }
 }
 
