@@ -1,3 +1,4 @@
+pub mod NoCode
 pub mod Bounds
 pub mod Marked
 pub mod One

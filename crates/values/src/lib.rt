@@ -2,7 +2,7 @@
 ghost use mathlib.Core.Path.{_≡_};
 ghost use Prim.Native.Nat.{_+_, _*_, _%_, _^_, _≤_};
 ghost use lib.Count.{ones};
-ghost use Rattle.values.specs.Values.{low, oneOf, twoOf, comparedOf, shiftedOf, wiredOf, codeOf, valueOf};
+ghost use Rattle.values.specs.Values.{low, constantOf, oneOf, twoOf, comparedOf, shiftedOf, wiredOf, codeOf, valueOf};
 
 // x in w bits.
 fn low_bits(x: u32, w: u8) -> u32
@@ -17,6 +17,16 @@ fn parity(x: u32) -> u32
     ensures { λ r. ⌜ r ≡ ones x % 2 ⌝ }
 {
     u32::count_ones(x) % 2
+}
+
+// CONST; IN and REG, whose values the state holds, give 0 here.
+fn constant(code: u8, k: u32) -> u32
+    ensures { λ r. ⌜ r ≡ constantOf code k ⌝ }
+{
+    match code {
+        0x01 => k,
+        _ => 0,
+    }
 }
 
 // The codes of one operand, not yet reduced to w bits.
@@ -91,13 +101,13 @@ fn wired(code: u8, v: u8, k: u32, x: u32, y: u32, z: u32) -> u32
     }
 }
 
-// By the code, not yet reduced to w bits; IN and REG, whose values the state holds, give 0 here. One flat choice, so that one jump finds any code.
+// By the code, not yet reduced to w bits: each code that computes is found by one jump; of the others those of the first range may be CONST, and the other ranges
+// give 0. An arm for a range looks at no operand, so that one is read only where its code asks for it.
 fn coded(code: u8, w: u8, v: u8, k: u32, x: u32, y: u32, z: u32) -> u32
     requires { ⌜ (w ≤ 32) × (v ≤ 32) ⌝ }
     ensures { λ r. ⌜ low w r ≡ low w (codeOf code w v k x y z) ⌝ }
 {
     match code {
-        0x01 => k,
         0x10 => unary(0x10, w, x),
         0x11 => unary(0x11, w, x),
         0x12 => unary(0x12, w, x),
@@ -114,6 +124,11 @@ fn coded(code: u8, w: u8, v: u8, k: u32, x: u32, y: u32, z: u32) -> u32
         0x50 => wired(0x50, v, k, x, y, z),
         0x51 => wired(0x51, v, k, x, y, z),
         0x52 => wired(0x52, v, k, x, y, z),
+        0x00..=0x0F => constant(code, k),
+        0x10..=0x1F => 0,
+        0x20..=0x2F => 0,
+        0x30..=0x3F => 0,
+        0x40..=0x4F => 0,
         _ => 0,
     }
 }
