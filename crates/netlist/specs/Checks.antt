@@ -11,12 +11,11 @@ use Rattle.netlist.specs.declared.Netlist.{Netlist}
 use Rattle.netlist.specs.Netlists.{recordOf, outputOf, labelsOf}
 
 -- 3: nodes 1 to 1,024, outputs 0 to 64, label bytes at most 4,096
-abbrev pub numbersGood : Netlist → Bool
-numbersGood n = leb 1 (n .nodes) && leb (n .nodes) 1024 && leb (n .outputs) 64 && leb (n .labels) 4096
-
--- the same of the three counts alone
 abbrev pub countsGood : ℕ → ℕ → ℕ → Bool
 countsGood nodes outputs labels = leb 1 nodes && leb nodes 1024 && leb outputs 64 && leb labels 4096
+
+abbrev pub numbersGood : Netlist → Bool
+numbersGood n = countsGood (n .nodes) (n .outputs) (n .labels)
 
 -- 4: a record's rule; the lowest that breaks it
 abbrev pub recordsCheck : Netlist → Check

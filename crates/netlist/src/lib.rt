@@ -160,18 +160,18 @@ pub fn check_net_in<'x>(
     outputs: usize,
     bytes: usize,
     code: &'x [u8; 1024],
-    width: &'x [u8],
+    width: &'x [u8; 1024],
     a: &'x [u16; 1024],
     b: &'x [u16; 1024],
     c: &'x [u16; 1024],
     k: &'x [u32; 1024],
     output: &'x [u16; 64],
-    label: &'x [u8],
+    label: &'x [u8; 4096],
 ) -> base::Verdict
-    ensures { λ r. ⌜ (length (now (width .entry)) ≡ 1024 → length (now (label .entry)) ≡ 4096 → r ≡ verdict (netChecks (netWith nodes (now (code .entry)) (now (width .entry)) (now (a .entry)) (now (b .entry)) (now (c .entry)) (now (k .entry)) outputs (now (output .entry)) bytes (now (label .entry))))) ⌝ }
+    ensures { λ r. ⌜ r ≡ verdict (netChecks (netWith nodes (now (code .entry)) (now (width .entry)) (now (a .entry)) (now (b .entry)) (now (c .entry)) (now (k .entry)) outputs (now (output .entry)) bytes (now (label .entry)))) ⌝ }
 {
     let good = counts_good(nodes, outputs, bytes);
-    if good & (nodes <= width.len()) & (bytes <= label.len()) {
+    if good {
         check_entries(
             nodes,
             outputs,

@@ -4,24 +4,15 @@ use native.Mathlib.Omega.{arith}
 use borrow.Author.Tests.{lt-leb, le-leb, not-true, not-false}
 use borrow.Author.Needs.{needs}
 use denote.Ref.{now}
-use mathlib.Core.List.{List}
-use Prim.Native.Nat.{ℕ}
-use lib.ListN.{length, replicate, length-replicate}
-use Rattle.base.proofs.Fill.{fill-length}
-use Rattle.netlist.specs.declared.Netlist.{Netlist}
+use lib.ListN.{length}
 use Rattle.base.specs.Checks.{answered, whole, verdict}
 use Rattle.base.proofs.Verdicts.{verdict-good, verdict-bad}
 use Rattle.netlist.specs.Checks.{netChecks}
-use Rattle.net_sheet.specs.Reading.{netFrom, netOf, sheetVerdict}
+use Rattle.net_sheet.specs.Reading.{netOf, sheetVerdict}
 use Rattle.net_sheet.proofs.Trailers.{passed, failed, net-answers, net-is, net-room}
 use Rattle.net_sheet.proofs.Verdicts.{read-done, read-refused}
 use Rattle.net_sheet.proofs.read.read_net.Statement.{statement}
 use Rattle.net_sheet.proofs.read.read_net.Tie as tie
-
--- what is loaded has full lists
-long : (s : List ℕ) (f m l : ℕ) (n : Netlist) → n ≡ netFrom s f m l → (length (n .width) ≡ 1024) × (length (n .label) ≡ 4096)
-unfolding netFrom
-long s f m l n e = rw e (fill-length _ _ (replicate 1024 0) ∙ length-replicate {A = ℕ} 1024 0, fill-length _ _ (replicate 4096 0) ∙ length-replicate {A = ℕ} 4096 0)
 
 refused-requires : tie.Need-refused-requires
 refused-requires c κs = search needs
@@ -59,25 +50,25 @@ refused-requires-3 c κs = search needs
 
 returns-3 : tie.Need-returns-3
 returns-3 c =
-    let s = now (c .before .before .before .before .before .before .before .before .before .before .before .before .before .before .before .before .before .before .before .before .before .before .before .args .sheet) in
-    let t = c .before .before .before .before .before .before .before .before .before .before .before .before .before .before .before .before .before .before .before .before .find-sections in
-    let p = passed s (t .result) (t .ensures) (not-false _ (c .before .before .before .before .before .before .before .before .before .before .before .before .before .before .before .before .if2 .left)) in
-    let m = c .before .before .before .before .before .before .before .before .before .before .before .before .before .before .before .net-from in
+    let s = now (c .before .before .before .before .before .before .before .before .before .before .before .before .before .before .before .before .before .before .before .before .before .args .sheet) in
+    let t = c .before .before .before .before .before .before .before .before .before .before .before .before .before .before .before .before .before .before .find-sections in
+    let p = passed s (t .result) (t .ensures) (not-false _ (c .before .before .before .before .before .before .before .before .before .before .before .before .before .before .if2 .left)) in
+    let m = c .before .before .before .before .before .before .before .before .before .before .before .before .before .net-from in
     let n : m .result ≡ netOf s = m .ensures ∙ net-is s (t .result) p in
     let v = c .before .before .before .check-net-in in
-    let w : v .result ≡ verdict (netChecks (m .result)) = v .ensures (long s _ _ _ (m .result) (m .ensures) .0) (long s _ _ _ (m .result) (m .ensures) .1) in
+    let w : v .result ≡ verdict (netChecks (m .result)) = v .ensures in
     let e : sheetVerdict s ≡ v .result = net-answers s (t .result) p ∙ ap (λ m. verdict (netChecks m)) (sym n) ∙ sym w in
     c .refused3 .ensures ∙ sym (read-refused s (v .result) e (c .before .if3 .taken))
 
 returns-4 : tie.Need-returns-4
 returns-4 c =
-    let s = now (c .before .before .before .before .before .before .before .before .before .before .before .before .before .before .before .before .before .before .before .before .before .before .args .sheet) in
-    let t = c .before .before .before .before .before .before .before .before .before .before .before .before .before .before .before .before .before .before .before .find-sections in
-    let p = passed s (t .result) (t .ensures) (not-false _ (c .before .before .before .before .before .before .before .before .before .before .before .before .before .before .before .if2 .left)) in
-    let m = c .before .before .before .before .before .before .before .before .before .before .before .before .before .before .net-from in
+    let s = now (c .before .before .before .before .before .before .before .before .before .before .before .before .before .before .before .before .before .before .before .before .args .sheet) in
+    let t = c .before .before .before .before .before .before .before .before .before .before .before .before .before .before .before .before .before .find-sections in
+    let p = passed s (t .result) (t .ensures) (not-false _ (c .before .before .before .before .before .before .before .before .before .before .before .before .before .if2 .left)) in
+    let m = c .before .before .before .before .before .before .before .before .before .before .before .before .net-from in
     let n : m .result ≡ netOf s = m .ensures ∙ net-is s (t .result) p in
     let v = c .before .before .check-net-in in
-    let w : v .result ≡ verdict (netChecks (m .result)) = v .ensures (long s _ _ _ (m .result) (m .ensures) .0) (long s _ _ _ (m .result) (m .ensures) .1) in
+    let w : v .result ≡ verdict (netChecks (m .result)) = v .ensures in
     let e : sheetVerdict s ≡ v .result = net-answers s (t .result) p ∙ ap (λ m. verdict (netChecks m)) (sym n) ∙ sym w in
     rw n (sym (read-done s (v .result) e (c .if3 .left)))
 
