@@ -1,12 +1,13 @@
 // The public calls on sheets: readers and writers of both, and a node's label. A netlist and a cut are lent, and made by value for the readers and writers below.
 ghost use mathlib.Core.Path.{_≡_};
 ghost use lib.ListN.{length};
+ghost use Rattle.netlist.specs.Netlists.{netWith};
 ghost use Rattle.net_sheet.specs.Reading.{netRead};
 ghost use Rattle.net_sheet.specs.Writing.{netWrote, netWritten};
+ghost use Rattle.cut.specs.Cuts.{cutWith};
 ghost use Rattle.cut_sheet.specs.Reading.{cutRead};
 ghost use Rattle.cut_sheet.specs.Writing.{cutWrote, cutWritten};
 ghost use Rattle.labels.specs.Spots.{spotOf};
-ghost use Rattle.sheets.specs.Whole.{netWith, cutWith};
 
 // The public functions below lend the fields of a netlist and of a cut to these three, at one lifetime.
 fn write_net_by<'x>(
