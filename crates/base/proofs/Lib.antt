@@ -9,5 +9,4 @@ pub mod Verdicts
 pub mod Windows
 pub mod One
 pub mod Exact
-pub mod Lent
 pub mod Arrays

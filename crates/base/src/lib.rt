@@ -1,16 +1,18 @@
 // What every layer shares: what a check finds, what a call answers, the smaller of two numbers, and numbers in bits and in little-endian bytes.
+#![tactic(auto)]
+
 ghost use Rattle.std.specs.Prelude.{◌≡◌, ◌^◌, min, ltb};
 ghost use Rattle.base.specs.Bytes.{two, four};
 
 // What a numbered check finds: nothing bad, or the place of the first bad entry.
-#[derive(Drop)]
+#[derive(Clone, Copy)]
 pub enum Check {
     Good,
     Bad(usize),
 }
 
 // A number of the outline's table, and its place.
-#[derive(Drop)]
+#[derive(Clone, Copy)]
 pub struct Verdict {
     pub answer: u32,
     pub place: usize,

@@ -1,11 +1,13 @@
 // The nineteen codes: their table, and the rule of a record.
+#![tactic(auto)]
+
 ghost use Rattle.std.specs.Prelude.{◌≡◌, ℕ, ◌<◌, ◌≤◌, ◌^◌, ltb, get_or};
 ghost use Rattle.codes.specs.Rows.{row_at, place_of, count_of};
 ghost use Rattle.codes.specs.Packed.{counts_at};
 ghost use Rattle.codes.specs.Records.{operand_good, field_good, fields_good, uses_k, widths_good, record_good};
 
 // What a row asks of the widths and of k, w being the record's width.
-#[derive(Drop)]
+#[derive(Clone, Copy)]
 pub enum Rule {
     // IN: nothing
     Free,
@@ -32,7 +34,7 @@ pub enum Rule {
 }
 
 // A row of the table: a code, how many operands it takes, and its width rule.
-#[derive(Drop)]
+#[derive(Clone, Copy)]
 pub struct Row {
     pub code: u8,
     pub operands: u8,
@@ -40,7 +42,7 @@ pub struct Row {
 }
 
 // A node's record.
-#[derive(Drop)]
+#[derive(Clone, Copy)]
 pub struct Record {
     pub code: u8,
     pub width: u8,

@@ -1,15 +1,15 @@
 -- What a list of checks answers, check by check, and what the checks of a cut say of its queues.
 use mathlib.Core.Path.{◌≡◌, refl, sym, ◌∙◌, ap}
-use mathlib.Core.Bool.{Bool, true, false, ◌&&◌, ◌||◌}
+use mathlib.Core.Bool.{true, false, ◌&&◌, ◌||◌}
 use mathlib.Core.List.{List, [], ◌∷◌}
-use Prim.Native.Nat.{ℕ, zero, suc, ◌+◌, ◌<◌, ◌≤◌}
+use Prim.Native.Nat.{ℕ, ◌<◌, ◌≤◌}
 use native.Mathlib.Omega.{arith}
 use borrow.Author.Tests.{eq-eqb, ne_eqb}
 use lib.Dec.{eqb, leb}
-use lib.ListN.{length, get_or, replicate, length-replicate}
+use lib.ListN.{length, get_or}
 use Rattle.base.specs.declared.Check.{Check}
 use Rattle.base.specs.declared.Check.TheVariants.{Good, Bad}
-use Rattle.base.specs.Checks.{every, lowest, whole, verdict}
+use Rattle.base.specs.Checks.{every, lowest, whole}
 use Rattle.base.proofs.First.{lowest-good, lowest-same}
 use Rattle.base.proofs.Tests.{every_true}
 use Rattle.base.proofs.Verdicts.{verdict-good, verdict-bad, verdict-done}
@@ -24,7 +24,6 @@ use Rattle.queues.proofs.Listed.{some_same}
 use Rattle.queues.proofs.Arrays.{count_is, parts_is, from_at, into_at, found_when}
 use Rattle.queues.proofs.Whole.{parts-few}
 use Rattle.cut.specs.declared.Cut.{Cut}
-use Rattle.cut.specs.declared.CutChecked.{CutChecked}
 use Rattle.cut.specs.Checks.{and_then, parts_check, cut_queues, depth_good, depths_check, joined, joined_check, checked_by}
 use Rattle.cut.specs.Cuts.{depth_of}
 

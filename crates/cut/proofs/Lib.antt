@@ -3,4 +3,3 @@ pub mod Ends
 pub mod Answers
 pub mod Within
 pub mod Trims
-pub mod Shapes

@@ -1,19 +1,19 @@
 -- The checks look only at what stands below the counts: at the parts of nodes and of the nodes that outputs name, the depths of queues, the label bytes.
-use mathlib.Core.Path.{◌≡◌, refl, sym, ◌∙◌, ap}
+use mathlib.Core.Path.{◌≡◌, ◌∙◌, ap}
 use mathlib.Core.Bool.{◌&&◌}
 use mathlib.Core.List.{List}
 use Prim.Native.Nat.{ℕ, ◌<◌}
 use lib.Dec.{eqb, leb}
 use lib.ListN.{length, get_or, take}
-use Rattle.base.specs.Checks.{AllGood, lowest, whole}
+use Rattle.base.specs.Checks.{AllGood, whole}
 use Rattle.base.proofs.First.{lowest-same}
 use Rattle.layout.specs.Labels.{label_check}
 use Rattle.netlist.specs.declared.Netlist.{Netlist}
-use Rattle.queues.specs.Queues.{Queue, part_of, parts_of, queues_of}
+use Rattle.queues.specs.Queues.{part_of, queues_of}
 use Rattle.queues.proofs.Same.{SameParts, parts_same, queues-same}
 use Rattle.cut.specs.declared.Cut.{Cut}
 use Rattle.cut.specs.Cuts.{depth_of, cut_labels}
-use Rattle.cut.specs.Checks.{and_then, depth_good, joined, parts_check, depths_check, joined_check, entries_check, cut_queues, cut_checks}
+use Rattle.cut.specs.Checks.{and_then, depth_good, parts_check, depths_check, joined_check, cut_queues, cut_checks}
 use Rattle.cut.proofs.Within.{cut_within}
 
 -- the cut with other lists

@@ -1,4 +1,6 @@
 // A cut by value, and the checks 7 to 11 on it.
+#![tactic(auto)]
+
 ghost use Rattle.std.specs.Prelude.{◌≡◌, true, ℕ, ◌≤◌};
 ghost use Rattle.base.specs.declared.Check.TheVariants.{Good};
 ghost use Rattle.netlist.specs.Checks.{numbers_good};
@@ -11,7 +13,7 @@ mod joins;
 
 // What a cut sheet says: a part number for each node, a depth for each queue, label bytes. A cut that was read has zeros past its counts.
 #[repr(C)]
-#[derive(Drop)]
+#[derive(Clone, Copy)]
 pub struct Cut {
     pub nodes: usize,
     pub part: [u8; 1024],
@@ -22,7 +24,7 @@ pub struct Cut {
 }
 
 // What the checks give: the answer, its place, and the queues; zeros on a refusal.
-#[derive(Drop)]
+#[derive(Clone, Copy)]
 pub struct CutChecked {
     pub answer: u32,
     pub place: usize,

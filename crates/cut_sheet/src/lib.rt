@@ -1,4 +1,6 @@
 // The cut sheet: its reader and its writer.
+#![tactic(auto)]
+
 mod load;
 mod read;
 mod write;

@@ -6,7 +6,7 @@ ghost use Rattle.cut_sheet.specs.Reading.{cut_read};
 
 // What reading a cut sheet gives: on a refusal the cut and the queues are all zeros.
 #[repr(C)]
-#[derive(Drop)]
+#[derive(Clone, Copy)]
 pub struct CutRead {
     pub answer: u32,
     pub place: usize,

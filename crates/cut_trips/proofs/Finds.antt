@@ -3,15 +3,15 @@ use mathlib.Core.Path.{◌≡◌, refl, sym, ◌∙◌, ap}
 use mathlib.Core.Bool.{Bool, true, false, ◌&&◌, ◌||◌, or-true}
 use mathlib.Core.List.{List}
 use mathlib.Core.Logic.{◌⊎◌, inl, inr, ⊎_elim, ◌↔◌}
-use Prim.Native.Nat.{ℕ, zero, suc, ◌<◌, ◌≤◌}
+use Prim.Native.Nat.{ℕ, zero, suc, ◌<◌}
 use native.Mathlib.Nat.{not-suc-le-zero, le_of_suc-le-suc, eq-or-lt_of_le}
 use native.Mathlib.Omega.{arith}
-use borrow.Author.Tests.{eqb-true, eqb-false, eq-eqb, leb-true, le-leb}
+use borrow.Author.Tests.{eqb-true, eq-eqb, leb-true, le-leb}
 use lib.Dec.{eqb, leb}
 use lib.ListN.{length}
 use Rattle.base.specs.Checks.{whole, lowest, Lowest}
 use Rattle.base.specs.declared.Check.{Check}
-use Rattle.base.specs.declared.Check.TheVariants.{Good, Bad}
+use Rattle.base.specs.declared.Check.TheVariants.{Bad}
 use Rattle.base.proofs.First.{lowest-bad}
 use Rattle.base.proofs.Tests.{and_left, and_right, and_true}
 use Rattle.layout.proofs.Meaning.{label-bad}
@@ -21,7 +21,7 @@ use Rattle.queues.specs.Queues.{Queue, part_of, parts_of, queue_at}
 use Rattle.cut.specs.declared.Cut.{Cut}
 use Rattle.cut.specs.Cuts.{depth_of, cut_labels}
 use Rattle.cut.specs.Checks.{and_then, cut_queues, depth_good, joined}
-use Rattle.cut_trips.specs.Finds.{PartsCounted, QueuesCounted, Joins, LowestAlone, CutMeans}
+use Rattle.cut_trips.specs.Finds.{QueuesCounted, LowestAlone, CutMeans}
 
 wrong : {A : Type 0} → true ≡ false → A
 wrong e = let z : ◌≡◌ {A = ℕ} 0 1 = cc in let y : ⊥ = omega arith in absurd y

@@ -1,5 +1,5 @@
 -- What the checks 8 to 11 find on a cut, in the words of the outline's table.
-use Rattle.std.specs.Prelude.{◌≡◌, List, ◌⊎◌, ◌≢◌, ◌↔◌, ℕ, ◌<◌, ◌≤◌, leb, length}
+use Rattle.std.specs.Prelude.{◌≡◌, ◌⊎◌, ◌↔◌, ℕ, ◌<◌, ◌≤◌, leb, length}
 use Rattle.base.specs.Checks.{found_by, Lowest}
 use Rattle.base.specs.declared.Check.TheVariants.{Bad}
 use Rattle.layout.specs.Labels.{BadEntry}

@@ -1,4 +1,6 @@
 // A cut sheet there and back, as one promise: what was read and written again is the same bytes.
+#![tactic(auto)]
+
 ghost use Rattle.std.specs.Prelude.{◌≡◌, length};
 ghost use Rattle.cut_trips.specs.Again.{copied, copied_into, reread};
 ghost use Rattle.cut_sheet.specs.Writing.{cut_written};

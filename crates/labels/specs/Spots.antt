@@ -60,5 +60,5 @@ bytes_at p s = take p.length (drop p.from s)
 abbrev pub IsPart : Spot → Bor (List ℕ) → Bor (List ℕ) → Bor (List ℕ) → Type 0
 IsPart p net cut r =
     (r.now ≡ bytes_at p (of_sheet p net cut).now)
-    × (r.ptr.0 ≡ (of_sheet p net cut).ptr.0)
-    × (r.ptr.1 ≡ p.from + (of_sheet p net cut).ptr.1)
+    × (r.ref_ptr.0 ≡ (of_sheet p net cut).ref_ptr.0)
+    × (r.ref_ptr.1 ≡ p.from + (of_sheet p net cut).ref_ptr.1)

@@ -1,11 +1,13 @@
 // A node's label, handed back as the part of the sheet that holds it.
+#![tactic(auto)]
+
 ghost use Rattle.std.specs.Prelude.{◌≡◌, true};
 ghost use Rattle.layout.specs.Trailer.{sections_of};
 ghost use Rattle.labels.specs.Spots.{sheet_spot, net_end, first_found, open_spot, spot_of, IsPart};
 
 // A part of one of the two sheets: whether it is the cut's, whether it is a label, its first byte, and its bytes.
 #[repr(C)]
-#[derive(Drop)]
+#[derive(Clone, Copy)]
 pub struct Spot {
     pub cut: bool,
     pub found: bool,

@@ -1,4 +1,6 @@
 // What the two sheets share in their layout: the trailer that points back, the labels, and bytes put into an image.
+#![tactic(auto)]
+
 mod labels;
 mod trailer;
 mod write;

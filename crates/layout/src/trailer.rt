@@ -4,7 +4,7 @@ ghost use Rattle.base.specs.Bytes.{two_at, four_at};
 ghost use Rattle.layout.specs.Trailer.{sections_of, trailer_bytes};
 
 // The bytes of a sheet's three sections, from byte 0; zeros where its trailer breaks the rules that both sheets share.
-#[derive(Drop)]
+#[derive(Clone, Copy)]
 pub struct Sections {
     pub good: bool,
     pub front: usize,

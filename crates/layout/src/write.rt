@@ -4,7 +4,7 @@ ghost use Rattle.layout.specs.Write.{placed};
 
 // What writing a sheet gives: on a refusal the length is 0.
 #[repr(C)]
-#[derive(Drop)]
+#[derive(Clone, Copy)]
 pub struct Wrote {
     pub answer: u32,
     pub place: usize,

@@ -1,4 +1,6 @@
 // The net sheet: its reader and its writer.
+#![tactic(auto)]
+
 mod load;
 mod put;
 mod read;

@@ -5,7 +5,7 @@ ghost use Rattle.net_sheet.specs.Reading.{net_read};
 
 // What reading a net sheet gives: on a refusal the netlist is all zeros.
 #[repr(C)]
-#[derive(Drop)]
+#[derive(Clone, Copy)]
 pub struct NetRead {
     pub answer: u32,
     pub place: usize,

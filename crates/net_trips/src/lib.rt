@@ -1,4 +1,6 @@
 // A net sheet there and back, as one promise: what was read and written again is the same bytes.
+#![tactic(auto)]
+
 ghost use Rattle.std.specs.Prelude.{◌≡◌, length};
 ghost use Rattle.net_trips.specs.Again.{copied, copied_into, reread};
 ghost use Rattle.net_sheet.specs.Writing.{net_written};

@@ -1,4 +1,6 @@
 // A netlist by value, and the checks 3 to 6 on it.
+#![tactic(auto)]
+
 ghost use Rattle.std.specs.Prelude.{◌≡◌, ℕ, ◌≤◌, length, take, ltb};
 ghost use Rattle.base.specs.Checks.{lowest, verdict};
 ghost use Rattle.codes.specs.Records.{record_good};
@@ -8,7 +10,7 @@ ghost use Rattle.netlist.specs.Checks.{counts_good, numbers_good, entry_checks, 
 
 // What a net sheet says. Node fields are one array each, and a netlist that was read has zeros past its counts.
 #[repr(C)]
-#[derive(Drop)]
+#[derive(Clone, Copy)]
 pub struct Netlist {
     pub nodes: usize,
     pub code: [u8; 1024],

@@ -1,5 +1,5 @@
 -- What the arrays of found queues hold, where there is room for all: each queue's own.
-use Rattle.std.proofs.Common.{◌≡◌, ℕ, ◌+◌, ◌<◌, ◌≤◌, Bool, true, ◌&&◌, leb, List, length, get_or, replicate, sym, refl, ap, ◌∙◌, zero-add, arith, le-leb}
+use Rattle.std.proofs.Common.{◌≡◌, ℕ, ◌<◌, ◌≤◌, true, ◌&&◌, leb, List, length, get_or, replicate, sym, refl, ap, ◌∙◌, zero-add, arith, le-leb}
 use lib.ListN.{length-replicate}
 use Rattle.base.specs.Checks.{every}
 use Rattle.base.proofs.Tests.{and_true}
@@ -7,7 +7,6 @@ use Rattle.netlist.specs.declared.Netlist.{Netlist}
 use Rattle.queues.specs.Queues.{Queue, part_of, parts_of, queues_of, queue_at, input, outside}
 use Rattle.queues.specs.Found.{column, parts_fit, found, queues_found}
 use Rattle.queues.proofs.Listed.{laid_at}
-use Rattle.queues.proofs.Whole.{parts-few}
 
 column_at : (f : Queue → ℕ) (qs : List Queue) (q : ℕ) → q < length qs → length qs ≤ 512 → get_or (column f qs) q 0 ≡ f (queue_at qs q)
 column_at f qs q h l =

@@ -1,11 +1,11 @@
 -- The channels by the marks are the channels by the operands: a bit is set exactly where the node is used.
-use Rattle.std.proofs.Common.{◌≡◌, ℕ, zero, suc, ◌^◌, ◌<◌, ◌≤◌, Bool, true, false, cond, not, ◌&&◌, eqb, leb, List, [], ◌∷◌, length, get_or, replicate, sym, refl, ap, ◌∙◌, arith, leb-true}
+use Rattle.std.proofs.Common.{◌≡◌, ℕ, zero, suc, ◌^◌, ◌<◌, ◌≤◌, true, false, not, ◌&&◌, eqb, leb, List, length, get_or, replicate, ap, ◌∙◌, arith, leb-true}
 use native.Mathlib.Nat.{zero-div}
 use lib.ListN.{length-replicate}
 use Rattle.base.specs.Checks.{every}
 use Rattle.base.proofs.Tests.{every_at}
-use Rattle.queues.specs.Lists.{listed, one_if}
-use Rattle.queues.specs.Queues.{Queue, part_of, channel_at}
+use Rattle.queues.specs.Lists.{one_if}
+use Rattle.queues.specs.Queues.{part_of, channel_at}
 use Rattle.queues.specs.Pass.{bit_of, marked, others, crossed, channels_by, channels_up_to, crosses_in, channels_in, channels_all_in, Told}
 use Rattle.queues.proofs.Listed.{listed_same}
 use Rattle.queues.proofs.Words.{others-bit, ones-before}

@@ -1,5 +1,5 @@
 -- The queues of the definition stand once each and in order. An entry of a list of stretches is found behind the stretches before it; each of the three lists is one, and so is each node's.
-use Rattle.std.proofs.Common.{◌≡◌, ℕ, zero, suc, ◌+◌, ◌-◌, ◌<◌, ◌≤◌, Bool, true, false, cond, not, ◌&&◌, ◌||◌, eqb, ltb, ◌≢◌, ◌⊎◌, List, [], ◌∷◌, ◌++◌, length, get_or, sym, refl, ap, ◌∙◌, inl, inr, ⊎_elim, le_of_suc-le-suc, not-suc-le-zero, add-zero, eq-or-lt_of_le, arith, length-append, get_or-append-add, lt-ltb, eq-eqb, ne_eqb}
+use Rattle.std.proofs.Common.{◌≡◌, ℕ, zero, suc, ◌+◌, ◌-◌, ◌<◌, ◌≤◌, Bool, true, false, not, ◌&&◌, eqb, ltb, List, [], ◌∷◌, ◌++◌, length, get_or, sym, refl, ap, ◌∙◌, inl, inr, ⊎_elim, le_of_suc-le-suc, not-suc-le-zero, add-zero, eq-or-lt_of_le, arith, length-append, get_or-append-add, lt-ltb, eq-eqb, ne_eqb}
 use mathlib.Core.Bool.{or-true}
 use mathlib.Core.Logic.{by_cases}
 use native.Mathlib.Decide.{dec_lt}
@@ -11,7 +11,7 @@ use Rattle.netlist.specs.declared.Netlist.{Netlist}
 use Rattle.netlist.specs.Netlists.{record_of, output_of}
 use Rattle.queues.specs.Lists.{listed, one_if, some, member}
 use Rattle.queues.specs.Queues.{Queue, input, outside, part_of, parts_of, crosses, input_at, channel_at, output_at, inputs_of, channels_of, channels_all, outputs_of, queues_of, queue_at, input_place, channel_place}
-use Rattle.queues.specs.Order.{Stands, output_place, EachInput, EachChannel, EachOutput, OfInput, OfChannel, OfOutput, EachQueue, InputsRise, ChannelsRise, OperandCrosses, OperandQueue}
+use Rattle.queues.specs.Order.{Stands, EachInput, EachChannel, EachOutput, OfInput, OfChannel, EachQueue, InputsRise, ChannelsRise, OperandCrosses, OperandQueue}
 use Rattle.queues.specs.Found.{via_of}
 use Rattle.queues.proofs.Listed.{ones-all, largest_le}
 

@@ -1,13 +1,13 @@
 -- The queues depend on the parts of the nodes and of the nodes that outputs name, and on nothing else that a list of part numbers holds. Definition by definition.
-use Rattle.std.proofs.Common.{◌≡◌, ℕ, zero, suc, ◌+◌, ◌<◌, ◌≤◌, Bool, true, false, cond, not, ◌&&◌, eqb, ltb, List, [], ◌∷◌, ◌++◌, length, get_or, replicate, sym, refl, ap, ◌∙◌, le_refl, arith, ltb-true}
+use Rattle.std.proofs.Common.{◌≡◌, ℕ, suc, ◌<◌, ◌≤◌, Bool, true, false, cond, not, ◌&&◌, eqb, ltb, List, [], ◌∷◌, length, get_or, replicate, refl, ap, ◌∙◌, le_refl, arith, ltb-true}
 use Rattle.base.proofs.Fill.{fill-same}
 use Rattle.codes.specs.Rows.{is_in, count_of}
 use Rattle.codes.specs.Records.{operands_in}
 use Rattle.netlist.specs.declared.Netlist.{Netlist}
 use Rattle.netlist.specs.Netlists.{record_of, output_of}
-use Rattle.queues.specs.Lists.{one_if, some, member, largest}
-use Rattle.queues.specs.Queues.{part_of, parts_of, used_in, crosses, input_at, channel_at, output_at, inputs_to, inputs_of, channels_of, channels_to, channels_all, outputs_of, queues_of, input_place, channel_place}
-use Rattle.queues.specs.Found.{column, no_queue, input_of, via_of, found}
+use Rattle.queues.specs.Lists.{one_if, member}
+use Rattle.queues.specs.Queues.{part_of, parts_of, used_in, crosses, input_at, channel_at, output_at, inputs_to, channels_of, channels_to, outputs_of, queues_of, channel_place}
+use Rattle.queues.specs.Found.{no_queue, input_of, via_of, found}
 use Rattle.queues.proofs.Listed.{listed_same, some_same, largest-same}
 
 -- two lists of part numbers give each node the same part, and each node that an output names

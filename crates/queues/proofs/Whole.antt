@@ -1,5 +1,5 @@
 -- The passes together find the queues of the definition: three stretches right behind each other, and for each operand that crosses the place of its channel.
-use Rattle.std.proofs.Common.{◌≡◌, ℕ, suc, ◌+◌, ◌-◌, ◌*◌, ◌%◌, ◌^◌, ◌<◌, ◌≤◌, Bool, true, false, cond, not, ◌&&◌, eqb, ltb, leb, List, ◌++◌, length, get_or, replicate, sym, refl, ap, ◌∙◌, ap₂, mod-eq_of_lt, mul-le-mul_left, zero-add, arith, length-append, ltb-true, ne_eqb, leb-true}
+use Rattle.std.proofs.Common.{◌≡◌, ℕ, ◌+◌, ◌-◌, ◌*◌, ◌%◌, ◌^◌, ◌<◌, ◌≤◌, Bool, true, false, cond, not, ◌&&◌, eqb, ltb, leb, List, ◌++◌, length, get_or, replicate, sym, refl, ap, ◌∙◌, ap₂, mod-eq_of_lt, mul-le-mul_left, zero-add, arith, length-append, ltb-true, ne_eqb, leb-true}
 use mathlib.Core.Bool.{and-false}
 use lib.ListN.{length-replicate}
 use Rattle.base.specs.Lists.{fill}
@@ -10,8 +10,7 @@ use Rattle.codes.specs.Rows.{is_in, count_of}
 use Rattle.codes.specs.Records.{operands_in}
 use Rattle.netlist.specs.declared.Netlist.{Netlist}
 use Rattle.netlist.specs.Netlists.{record_of, output_of}
-use Rattle.queues.specs.declared.Queues.{Queues}
-use Rattle.queues.specs.Lists.{listed, laid, one_if, member, largest}
+use Rattle.queues.specs.Lists.{listed, laid, one_if, member}
 use Rattle.queues.specs.Queues.{Queue, input_at, channel_at, output_at, part_of, parts_of, crosses, inputs_of, channels_all, channels_to, channels_of, outputs_of, queues_of, channel_place}
 use Rattle.queues.specs.Found.{column, no_queue, input_of, via_of, found}
 use Rattle.queues.specs.Pass.{before, Told, via_in}

@@ -1,5 +1,5 @@
 -- Lists in order: entries one behind the other, kept where a test holds.
-use Rattle.std.specs.Prelude.{ℕ, zero, suc, max, Bool, true, false, cond, ◌||◌, List, [], ◌∷◌, ◌++◌, ◌==◌, slice_set}
+use Rattle.std.specs.Prelude.{ℕ, zero, suc, max, Bool, false, cond, ◌||◌, List, [], ◌∷◌, ◌++◌, ◌==◌, slice_set}
 
 module _ {A : Type 0} where
   -- f 0, f 1, .., up to f (n - 1), one behind the other

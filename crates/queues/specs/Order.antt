@@ -1,5 +1,5 @@
 -- The queues of the definition stand once each and in order, and each operand that crosses finds its own.
-use Rattle.std.specs.Prelude.{◌≡◌, ℕ, ◌+◌, ◌<◌, ◌≤◌, true, ◌≢◌, ◌⊎◌, List, length, nat_lt}
+use Rattle.std.specs.Prelude.{◌≡◌, ℕ, ◌+◌, ◌<◌, true, ◌≢◌, ◌⊎◌, List, length, nat_lt}
 use Rattle.codes.specs.Rows.{is_in, count_of}
 use Rattle.codes.specs.Records.{operands_in}
 use Rattle.netlist.specs.declared.Netlist.{Netlist}

@@ -1,5 +1,5 @@
 -- What the private functions of the finder leave, pass by pass. No public promise speaks of it: those are in Found.
-use Rattle.std.specs.Prelude.{◌≡◌, ℕ, zero, suc, ◌+◌, ◌-◌, ◌/◌, ◌%◌, ◌^◌, ◌<◌, Bool, true, false, cond, not, ◌&&◌, List, [], ◌∷◌, length, take, set, ◌==◌, bit_and, bit_or, count_ones, nat_lt, slice_index, slice_set}
+use Rattle.std.specs.Prelude.{◌≡◌, ℕ, zero, suc, ◌+◌, ◌-◌, ◌/◌, ◌%◌, ◌^◌, ◌<◌, Bool, true, cond, not, ◌&&◌, List, [], ◌∷◌, length, take, ◌==◌, bit_and, bit_or, count_ones, nat_lt, slice_index, slice_set}
 use Rattle.codes.specs.Rows.{is_in, count_of}
 use Rattle.queues.specs.Lists.{listed, one_if, some, member}
 use Rattle.queues.specs.Queues.{Queue, part_of, input_at, channel_at, output_at}

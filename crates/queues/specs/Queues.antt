@@ -1,6 +1,6 @@
 -- The queues of a cut drawing, in order (outline, "The cut sheet"): one for each IN, by node; one channel for each node and each other part in which
 -- some node uses it as an operand, by node and then by part; one for each output, by sheet order.
-use Rattle.std.specs.Prelude.{ℕ, suc, ◌+◌, Bool, cond, not, ◌&&◌, List, [], ◌∷◌, ◌++◌, length, ◌==◌, slice_index, slice_index_or}
+use Rattle.std.specs.Prelude.{ℕ, suc, ◌+◌, Bool, not, ◌&&◌, List, [], ◌∷◌, ◌++◌, length, ◌==◌, slice_index, slice_index_or}
 use Rattle.codes.specs.Rows.{is_in}
 use Rattle.codes.specs.Records.{operands_in}
 use Rattle.netlist.specs.declared.Netlist.{Netlist}

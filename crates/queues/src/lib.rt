@@ -1,4 +1,6 @@
 // The queues of a cut drawing, in the outline's order, found in one pass over the operands.
+#![tactic(auto)]
+
 ghost use Rattle.std.specs.Prelude.{◌≡◌, ℕ, ◌≤◌, true, List, nat_le, slice_index};
 ghost use Rattle.base.specs.Checks.{every};
 ghost use Rattle.netlist.specs.Netlists.{net_with};
@@ -11,7 +13,7 @@ mod parts;
 
 // The queues of a cut, inputs first, then channels, then outputs, and where each node and operand finds its own.
 #[repr(C)]
-#[derive(Drop)]
+#[derive(Clone, Copy)]
 pub struct Queues {
     pub parts: usize,
     // how many queues there are, and how many of each kind

@@ -1,10 +1,12 @@
 // Label texts: where the text of a node's entry stands in a labels section.
+#![tactic(auto)]
+
 ghost use Rattle.std.specs.Prelude.{◌≡◌, ◌≤◌, leb, length};
 ghost use Rattle.layout.specs.Labels.{entry_end};
 ghost use Rattle.texts.specs.Texts.{text_of};
 
 // A text's first byte within the section and its bytes; zeros where no entry has the node.
-#[derive(Drop)]
+#[derive(Clone, Copy)]
 pub struct Text {
     pub found: bool,
     pub from: usize,

@@ -1,9 +1,11 @@
 // A walker over a net sheet's records: the sheet and a record number, held together. The work is done by functions that take the two apart.
+#![tactic(auto)]
+
 ghost use Rattle.std.specs.Prelude.{◌≡◌};
 ghost use Rattle.walker.specs.Walking.{stands_at, left_from, after};
 
 // The sheet, and the number of the record that the walker stands at.
-#[derive(Drop)]
+#[derive(Clone, Copy)]
 pub struct Walker<'a> {
     pub sheet: &'a [u8],
     pub number: usize,
