@@ -1,5 +1,5 @@
 -- Lists of nodes of one code: one turn of the loop that makes one, and what arrays hold that were changed at a list's nodes. By induction on the nodes: a node is at the next place of its list or in no place.
-use mathlib.Core.Path.{◌≡◌, refl, sym, ◌∙◌, ap}
+use mathlib.Core.Path.{◌≡◌, refl, ◌∙◌, ap}
 use mathlib.Core.Bool.{Bool, true, false, cond, ◌&&◌}
 use mathlib.Core.List.{List}
 use mathlib.Core.Logic.{⊎_elim}
@@ -12,7 +12,7 @@ use lib.Dec.{eqb}
 use lib.ListN.{length, get_or, set, length-set}
 use lib.Seq.{get_or-set_same, get_or-set_other}
 use Rattle.base.specs.Checks.{every}
-use Rattle.cycles.specs.Inputs.{ins_in, fits_in, fits_node, all_fit_in}
+use Rattle.cycles.specs.Inputs.{ins_in, fits_in, all_fit_in}
 use Rattle.cycles.specs.Pass.{inside}
 use Rattle.cycles.specs.Listed.{found_in, Listed, puts, list_fits}
 

@@ -88,7 +88,7 @@ module _ (n : Netlist) (g : AllGood (net_checks n)) (w : Within n) where
       let q = good_record n g i h in
       let s = stored i h in
       let f : ℕ → ℕ = λ m. get_or vals m 0 in
-      rw (s.a-is, s.b-is, s.c-is)
+      rw (s.a_is, s.b_is, s.c_is)
       (same_operands r.code r.width (width_of n r.b) r.k (f r.a) (f r.b) (f r.c) _ _ _
       (λ l. count_is r.code (byte r.code q.known) l q.known)
       (λ l. sym (nth_first f (count_of r.code) r.a r.b r.c l))

@@ -11,7 +11,6 @@ use lib.Dec.{ltb}
 use lib.ListN.{length, get_or, replicate}
 use lib.Seq.{ext_get_or}
 use Rattle.base.specs.Checks.{AllGood}
-use Rattle.base.specs.Lists.{fill}
 use Rattle.base.proofs.Arrays.{zeros_at}
 use Rattle.base.proofs.Fill.{fill_at, fill-past, fill-length}
 use Rattle.base.proofs.First.{lowest-good}

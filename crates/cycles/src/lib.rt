@@ -1,4 +1,6 @@
 // The cycles layer's code: the plain stepper on lent arrays.
+#![tactic(auto)]
+
 mod cycle;
 mod inputs;
 mod nodes;

@@ -2,7 +2,7 @@
 use mathlib.Core.Path.{◌≡◌, refl, sym, ap, ◌∙◌, subst}
 use mathlib.Core.Logic.{inl, inr}
 use mathlib.Core.Bool.{true, cond}
-use mathlib.Core.List.{List, ◌∷◌, Memᴰ}
+use mathlib.Core.List.{[], List, ◌∷◌, Memᴰ}
 use Prim.Native.Nat.{◌+◌, ◌-◌, ◌<◌}
 use native.Mathlib.Omega.{arith}
 use Rattle.nets.specs.Lists.{bit, tab}
@@ -34,6 +34,7 @@ module _ (N : Net) (G : Good N) (s : State) where
 
 fires : (N : Net) (s : State) (xs : List Action) (a : Action) → Memᴰ a xs → ready N s a ≡ true → 0 < fired_by N s xs
 unfolding fired_by step
+fires N s [] a m r = elim m [ ]
 fires N s (x ∷ xs) a (Memᴰ.head p) r = let e : bit (ready N s x) ≡ 1 = ap bit (subst (λ y. ready N s y ≡ true) p r) in omega arith
 fires N s (x ∷ xs) a (Memᴰ.tail m) r =
     split-on (λ b. 0 < bit b + fired_by N (cond b (done N s x) s) xs) (ready N s x) (λ _. omega arith) (λ _. omega (arith, fires N s xs a m r))

@@ -1,4 +1,6 @@
 // The nodes of a network evaluated in one pass, each once: its value, and whether its needs are met.
+#![tactic(auto)]
+
 ghost use Rattle.std.specs.Prelude.{◌≡◌, List, ℕ, ◌%◌, ◌-◌, ◌<◌, ◌≤◌, min};
 ghost use Rattle.evals.specs.Passes.{mk, value_now, met_now, vals_after, mets_after, tokens_in, tokens_there};
 

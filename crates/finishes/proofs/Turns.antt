@@ -1,5 +1,5 @@
 -- One turn of each pass.
-use Rattle.std.proofs.Common.{◌≡◌, ℕ, suc, ◌+◌, ◌-◌, ◌≤◌, Bool, false, cond, not, ◌&&◌, ltb, List, get_or, set, sym, refl, ap, ◌∙◌, le_refl, add-one, arith}
+use Rattle.std.proofs.Common.{◌≡◌, ℕ, suc, ◌+◌, ◌-◌, ◌≤◌, Bool, false, cond, not, ◌&&◌, ltb, List, get_or, set, ap, ◌∙◌, le_refl, add-one, arith}
 use Rattle.base.specs.Lists.{fill}
 use Rattle.base.proofs.Fill.{fill_step, fill-past}
 use Rattle.lanes.specs.Lanes.{take_used}

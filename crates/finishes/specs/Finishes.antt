@@ -1,7 +1,6 @@
 -- Finish rules on the arrays, those of the parts from lo up to hi at once: which of them are ready, and what they change. In a network this is
 -- what they leave when tried in turn (spots/proofs/Rounding).
-use Rattle.std.specs.Prelude.{ℕ, zero, suc, ◌+◌, ◌-◌, ◌%◌, ◌^◌, min, Bool, true, false, cond, not, ◌&&◌, List, replicate, nat_lt, slice_index, slice_index_or, slice_set}
-use Rattle.base.specs.Lists.{fill}
+use Rattle.std.specs.Prelude.{ℕ, zero, suc, ◌+◌, ◌-◌, ◌%◌, ◌^◌, min, Bool, false, cond, not, ◌&&◌, List, replicate, nat_lt, slice_index, slice_index_or, slice_set}
 use Rattle.codes.specs.Rows.{is_reg}
 use Rattle.lanes.specs.Lanes.{take_cells, take_used}
 

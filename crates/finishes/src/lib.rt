@@ -1,4 +1,6 @@
 // Finish rules on lent arrays: those of several parts at once.
+#![tactic(auto)]
+
 ghost use Rattle.std.specs.Prelude.{◌≡◌, ℕ, ◌+◌, ◌-◌, ◌%◌, ◌^◌, ◌<◌, ◌≤◌, min, ◌&&◌, if◌then◌else◌, nat_lt, slice_index};
 ghost use Rattle.base.specs.Lists.{fill};
 ghost use Rattle.codes.specs.Rows.{is_reg};

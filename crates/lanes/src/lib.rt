@@ -1,4 +1,6 @@
 // The queue store on lent arrays: a token put on a queue, and the oldest taken.
+#![tactic(auto)]
+
 ghost use Rattle.std.specs.Prelude.{◌≡◌, cond, ℕ, ◌<◌, ◌≤◌, ltb, get_or, length};
 ghost use Rattle.lanes.specs.Lanes.{place_of, push_cells, push_used, shifted, take_cells, take_used};
 

@@ -1,10 +1,12 @@
 // Feeds and drains of a network on lent arrays, and what a bench hand asks of it.
+#![tactic(auto)]
+
 ghost use Rattle.std.specs.Prelude.{◌≡◌, ◌%◌, ◌<◌, min, ltb, get_or};
 ghost use Rattle.moves.specs.Moves.{Fed, output_at, Took, told};
 
 // What a drain gives.
 #[repr(C)]
-#[derive(Drop)]
+#[derive(Clone, Copy)]
 pub struct Drained {
     pub answer: u32,
     pub value: u32,
@@ -12,7 +14,7 @@ pub struct Drained {
 
 // What a question gives.
 #[repr(C)]
-#[derive(Drop)]
+#[derive(Clone, Copy)]
 pub struct Told {
     pub answer: u32,
     pub value: u32,

@@ -47,6 +47,7 @@ pick P k y n j = split-on (P j) (eqb j k) (λ e. subst (λ x. P x true) (sym (eq
 -- ---- lists of operands
 
 pub all_out : (t : ℕ → Bool) (xs : List ℕ) → all_of t xs ≡ true → (a : ℕ) → Memᴰ a xs → t a ≡ true
+all_out t [] e a m = elim m [ ]
 all_out t (x ∷ xs) e a (Memᴰ.head p) = ap t p ∙ and_left (t x) (all_of t xs) e
 all_out t (x ∷ xs) e a (Memᴰ.tail m) = all_out t xs (and_right (t x) (all_of t xs) e) a m
 

@@ -2,7 +2,7 @@
 use mathlib.Core.Path.{◌≡◌, refl, sym, ap, ◌∙◌, subst}
 use mathlib.Core.Logic.{◌≢◌, ◌⊎◌, inl, inr, ⊎_elim, by_cases}
 use mathlib.Core.Bool.{Bool, true, false, cond, ◌&&◌, or-true}
-use mathlib.Core.List.{List, ◌∷◌, ◌++◌, Memᴰ}
+use mathlib.Core.List.{List, [], ◌∷◌, ◌++◌, Memᴰ}
 use Prim.Native.Nat.{ℕ, ◌+◌, ◌≤◌, ◌<◌}
 use native.Mathlib.Omega.{arith}
 use native.Mathlib.Nat.{not-le_of_lt}
@@ -53,6 +53,7 @@ is_input n i e =
 
 -- an operand of the drawing's node is one of its record
 member_in : (i : ℕ) (xs : List ℕ) → Memᴰ i xs → member i xs ≡ true
+member_in i [] m = elim m [ ]
 member_in i (x ∷ xs) (Memᴰ.head e) = rw (eq-eqb i x e)
 member_in i (x ∷ xs) (Memᴰ.tail m) = rw (member_in i xs m) (or-true (eqb i x))
 

@@ -1,11 +1,13 @@
 // Opening: two sheets and a cycle limit in; answer, place, the plan and a fresh network out.
+#![tactic(auto)]
+
 ghost use Rattle.std.specs.Prelude.{◌≡◌, ◌++◌};
 ghost use Rattle.cut_sheet.specs.Reading.{read_checks};
 ghost use Rattle.opens.specs.Opening.{no_plan, no_network, fresh_network, limit_checks, opened_by, plan_from, opened};
 
 // What opening gives: on a refusal the plan and the network are all zeros.
 #[repr(C)]
-#[derive(Drop)]
+#[derive(Clone, Copy)]
 pub struct Opened {
     pub answer: u32,
     pub place: usize,

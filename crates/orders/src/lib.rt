@@ -1,4 +1,6 @@
 // Orders on a network's lent arrays: three lists of kinds, indexes and values, played entry by entry.
+#![tactic(auto)]
+
 ghost use Rattle.std.specs.Prelude.{◌≡◌, cond, List, ℕ, ◌≤◌, length, set};
 ghost use Rattle.nets.specs.Orders.{entry_at, drains_asked};
 ghost use Rattle.spots.specs.Stores.{net_in, plan_in};
@@ -6,7 +8,7 @@ ghost use Rattle.orders.specs.Orders.{entry_of, Acts, order_answer, refused_orde
 
 // What an order gives: the counts of feeds, drains and firings done.
 #[repr(C)]
-#[derive(Drop)]
+#[derive(Clone, Copy)]
 pub struct Played {
     pub answer: u32,
     pub feeds: usize,
@@ -15,7 +17,7 @@ pub struct Played {
 }
 
 // What an entry gives: its answer, and the value where it is a drain that is done, else 0.
-#[derive(Drop)]
+#[derive(Clone, Copy)]
 pub struct Acted {
     pub answer: u32,
     pub value: u32,

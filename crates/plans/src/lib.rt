@@ -1,4 +1,6 @@
 // The plan of a network: what opening works out once and no call changes.
+#![tactic(auto)]
+
 ghost use Rattle.std.specs.Prelude.{◌≡◌, cond, List, ℕ, ◌%◌, ◌<◌, ◌≤◌, min, get_or};
 ghost use Rattle.base.specs.Lists.{fill};
 ghost use Rattle.codes.specs.Rows.{is_in};
@@ -10,7 +12,7 @@ ghost use Rattle.plans.specs.Plans.{token_at, read_at, spot_of, first_spot, join
 // How many there are of each; the nodes' fields with where each operand is read (a node, 1,024 and its queue, or 1,536 for none); the queues' nodes, ends and
 // depths.
 #[repr(C)]
-#[derive(Drop)]
+#[derive(Clone, Copy)]
 pub struct Plan {
     pub limit: u32,
     pub nodes: usize,

@@ -1,4 +1,6 @@
 // Put rules on lent arrays, tried one after the other; the nodes are evaluated on the way, each once.
+#![tactic(auto)]
+
 ghost use Rattle.std.specs.Prelude.{◌≡◌, List, [], cond, ℕ, ◌+◌, ◌%◌, ◌<◌, ◌≤◌, min, max, ltb, get_or};
 ghost use Rattle.evals.specs.Passes.{Fields, mk};
 ghost use Rattle.puts.specs.Puts.{mk_plan, mk_pass, put_test, put_tried, Asked, puts_done};

@@ -1,4 +1,6 @@
 // Rules of a network on lent arrays: one fired alone, one asked whether it is ready, a round, and a run.
+#![tactic(auto)]
+
 ghost use Rattle.std.specs.Prelude.{◌≡◌, cond, List, ℕ, ◌+◌, ◌<◌, ◌≤◌, min, eqb};
 ghost use Rattle.plans.specs.declared.Plan.{Plan};
 ghost use Rattle.spots.specs.declared.Network.{Network};
@@ -9,7 +11,7 @@ ghost use Rattle.rounds.specs.Runs.{Rounded, Runs};
 
 // What a run gives.
 #[repr(C)]
-#[derive(Drop)]
+#[derive(Clone, Copy)]
 pub struct Ran {
     pub answer: u32,
     pub rounds: usize,

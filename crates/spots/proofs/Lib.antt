@@ -11,4 +11,3 @@ pub mod Loading
 pub mod Rounding
 pub mod OnArrays
 pub mod One
-pub mod Shapes

@@ -100,7 +100,7 @@ module _ (n : Netlist) (c : Cut) (g : AllGood (net_checks n)) (h : AllGood (cut_
   is p u =
       let D = puts-done n c g h limit s S H in
       let e : asked_of n c g h limit t 0 net.parts p ≡ ltb p net.parts = ap (λ b. not b && ltb p net.parts) (le-ltb p 0 (omega arith)) in
-      rw (D.holds.flag, D.holds.used, sym D.Counts-same)
+      rw (D.holds.flag, D.holds.used, sym D.counts_same)
       (marked n c g h limit t 0 net.parts (omega arith) p u ∙ ap (λ b. b && ready net t (finish p)) e)
 
   all : (p : ℕ) → F p ≡ true → Finishes net t p
@@ -149,7 +149,7 @@ module _ (n : Netlist) (c : Cut) (g : AllGood (net_checks n)) (h : AllGood (cut_
             ap (λ x. fill (next_held P.code P.ra P.part T.vals fin x) (min n.nodes 1024) x) (sym D.held_same)
             ∙ held-left n c g h limit t fin F is all T.vals T.mets D.holds.sees ∙ ap held_of (sym after_is);
         count =
-            ap (λ x. fill (next_count fin x) (min net.parts 32) x) (sym D.Counts-same)
+            ap (λ x. fill (next_count fin x) (min net.parts 32) x) (sym D.counts_same)
             ∙ counts-left n c g h limit t fin F is all small net.parts few-parts low ∙ ap counts_of (sym after_is);
         fired = fired_is;
       }

@@ -1,4 +1,6 @@
 // A network's state as a struct of arrays, and put rules on its arrays: what is found of nodes and queues begins anew, and the rules are tried.
+#![tactic(auto)]
+
 ghost use Rattle.std.specs.Prelude.{◌≡◌, List, ℕ, min, set, replicate};
 ghost use Rattle.evals.specs.Passes.{mk, tokens_in, tokens_there};
 ghost use Rattle.puts.specs.Puts.{mk_plan, puts_done};
@@ -8,7 +10,7 @@ ghost use Rattle.spots.specs.Rounds.{no_vals, no_mets, first_pass, Left};
 // What rules change. The queue store has 16 places for each queue, its oldest token first and zeros behind its last; then how many tokens each queue holds,
 // each put rule's done flag by its queue, what each REG holds by its node, and each part's finished cycles.
 #[repr(C)]
-#[derive(Drop)]
+#[derive(Clone, Copy)]
 pub struct Network {
     pub cells: [u32; 8192],
     pub used: [u8; 512],

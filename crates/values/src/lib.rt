@@ -1,4 +1,6 @@
 // What each code computes.
+#![tactic(auto)]
+
 ghost use Rattle.std.specs.Prelude.{◌≡◌, ◌+◌, ◌*◌, ◌%◌, ◌^◌, ◌≤◌, count_ones};
 ghost use Rattle.values.specs.Values.{low, constant_of, one_of, two_of, compared_of, shifted_of, wired_of, code_of, value_of};
 
