@@ -4,7 +4,7 @@ use std::path::PathBuf;
 
 fn main() {
     let own = PathBuf::from(env::var_os("CARGO_MANIFEST_DIR").expect("cargo names the folder"));
-    let folder = env::var_os("CWAZIBUTHU_LIB").map_or(own.join("../target/staticlib"), PathBuf::from);
+    let folder = env::var_os("CWAZIBUTHU_LIB").map_or(own.join("../crates/cwazibuthu/out"), PathBuf::from);
     println!("cargo:rerun-if-env-changed=CWAZIBUTHU_LIB");
     println!("cargo:rerun-if-changed={}", folder.join("libcwazibuthu.a").display());
     println!("cargo:rustc-link-search=native={}", folder.display());

@@ -5,7 +5,7 @@
  * NULL, not even that of an empty list, and what a call may change overlaps nothing else that it is lent. A bool is 0 or 1.
  *
  * Some structs are large (a cwazi_opened has 54,992 bytes): keep them off small stacks. The calls on sheets, opening among them, use up to some
- * 250,000 bytes of stack themselves; the calls on registers and networks some 12,000.
+ * 300,000 bytes of stack themselves; the calls on registers and networks some 12,000.
  */
 #ifndef CWAZIBUTHU_H
 #define CWAZIBUTHU_H

@@ -1,4 +1,3 @@
 pub mod Counting
 pub mod Playing
-pub mod Again
 pub mod One

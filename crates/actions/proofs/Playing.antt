@@ -1,12 +1,13 @@
 -- What the loop over the actions keeps: what is done so far is what the actions so far do, and a refused order stands at its first.
 use mathlib.Core.Path.{◌≡◌, refl, sym, ◌∙◌, ap, ap₂, subst}
-use mathlib.Core.Bool.{Bool, true, false, cond, not, ◌&&◌}
+use mathlib.Core.Bool.{Bool, true, false, cond, ◌&&◌}
 use mathlib.Core.List.{List}
 use Prim.Native.Nat.{ℕ, ◌+◌, ◌-◌, ◌^◌, ◌<◌, ◌≤◌, zero-le}
 use native.Mathlib.Numerals.{add-one}
 use native.Mathlib.Omega.{arith}
 use borrow.Author.Tests.{eq-eqb, eqb-true, eqb-false, ltb-true, ltb-false}
-use lib.Dec.{T as Holds, eqb, ltb, ltb→lt, eqb→eq}
+use lib.Dec.{eqb, ltb}
+use Rattle.base.proofs.Tests.{and_left, and_right}
 use lib.ListN.{length, length-map, get_or, set}
 use Rattle.nets.specs.Lists.{bit}
 use Rattle.nets.specs.Orders.{Entry, drains_asked}
@@ -22,19 +23,11 @@ use Rattle.actions.specs.Actions.{none, kinds_of, indexes_of, values_of, entries
 use Rattle.actions.proofs.Counting.{entry_by, entry_is, bit-small, grows}
 
 -- what the loop's test says where it goes on
-goes_left : (a b : Bool) → Holds (a && b) → Holds a
-goes_left true b h = tt
-goes_left false b h = h
+pub goes_less : (t n a : ℕ) → ltb t n && eqb a 0 ≡ true → t < n
+goes_less t n a h = ltb-true t n (and_left (ltb t n) (eqb a 0) h)
 
-goes_right : (a b : Bool) → Holds (a && b) → Holds b
-goes_right true b h = h
-goes_right false b h = absurd h
-
-pub goes_less : (t n a : ℕ) → Holds (ltb t n && eqb a 0) → t < n
-goes_less t n a h = ltb→lt t n (goes_left (ltb t n) (eqb a 0) h)
-
-pub goes_zero : (t n a : ℕ) → Holds (ltb t n && eqb a 0) → a ≡ 0
-goes_zero t n a h = eqb→eq a 0 (goes_right (ltb t n) (eqb a 0) h)
+pub goes_zero : (t n a : ℕ) → ltb t n && eqb a 0 ≡ true → a ≡ 0
+goes_zero t n a h = eqb-true a 0 (and_right (ltb t n) (eqb a 0) h)
 
 module _ (P : Plan) (L : Network) (actions : List Action) (lent : List ℕ) where
   abbrev answer : ℕ
@@ -125,15 +118,15 @@ module _ (P : Plan) (L : Network) (actions : List Action) (lent : List ℕ) wher
         ap (λ U. U.lent) h ∙ ap (λ x. cond x T.lent lent) (sym e),
       )
 
-  past : (b : Bool) → Holds (not (b && true)) → b ≡ false
-  past true h = absurd h
+  past : (b : Bool) → b && true ≡ false → b ≡ false
+  past true h = h
   past false h = refl
 
-  pub stands_last : (t : ℕ) (p : Played) (M : Network) (zs : List ℕ) → Stands t p M zs → Holds (not (ltb t (length actions) && eqb p.answer 0))
+  pub stands_last : (t : ℕ) (p : Played) (M : Network) (zs : List ℕ) → Stands t p M zs → ltb t (length actions) && eqb p.answer 0 ≡ false
       → ActionsCall P L actions lent p M zs
   stands_last t p M zs s over =
       order-whole P L (kinds_of actions) (indexes_of actions) (values_of actions) lent p M zs
-      (ends_by t p M zs (eqb answer 0) refl s (λ e. ltb-false t (length actions) (past (ltb t (length actions)) (subst (λ b. Holds (not (ltb t (length actions) && b))) (ap (λ x. eqb x 0) s.1 ∙ e) over))))
+      (ends_by t p M zs (eqb answer 0) refl s (λ e. ltb-false t (length actions) (past (ltb t (length actions)) (subst (λ b. ltb t (length actions) && b ≡ false) (ap (λ x. eqb x 0) s.1 ∙ e) over))))
 
 -- ---- one action, from what was done, stored and counted
 

@@ -1,4 +1,6 @@
 // An order as one lent slice of actions, played on a network behind references as one of three lists is. Nothing is copied.
+#![tactic(auto)]
+
 ghost use Rattle.std.specs.Prelude.{◌≡◌, cond, ◌&&◌, ℕ, ◌+◌, ◌^◌, ◌-◌, ltb, length, set};
 ghost use Rattle.nets.specs.Lists.{bit};
 ghost use Rattle.nets.specs.Orders.{drains_asked};
@@ -8,7 +10,7 @@ ghost use Rattle.actions.specs.Actions.{entries_of, Tried, ActionsCall};
 
 // An entry of an order: kind 0 feeds, 1 drains, 2 fires. Only a feed's value counts.
 #[repr(C)]
-#[derive(Drop)]
+#[derive(Clone, Copy)]
 pub struct Action {
     pub kind: u32,
     pub index: u32,

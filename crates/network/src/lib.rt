@@ -1,4 +1,6 @@
 // The public calls that open a network, feed and drain it, and tell a bench hand how it stands. The network stays where it is and is not copied.
+#![tactic(auto)]
+
 ghost use Rattle.std.specs.Prelude.{◌≡◌, min, ltb, get_or};
 ghost use Rattle.opens.specs.Opening.{opened};
 ghost use Rattle.moves.specs.Moves.{Fed, output_at, Took, told};

@@ -1,4 +1,6 @@
 // The public calls that work a network's rules: one rule, a round, a run, an order, and whether a rule is ready. The network stays where it is and is not copied.
+#![tactic(auto)]
+
 ghost use Rattle.std.specs.Prelude.{◌≡◌, ℕ};
 ghost use Rattle.spots.specs.Stores.{net_in, plan_in};
 ghost use Rattle.rounds.specs.Fires.{fire_answer, Fired};

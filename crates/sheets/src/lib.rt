@@ -1,4 +1,6 @@
 // The public calls on sheets: readers and writers of both, and a node's label. A netlist and a cut are lent, and made by value for the readers and writers below.
+#![tactic(auto)]
+
 ghost use Rattle.std.specs.Prelude.{◌≡◌, length};
 ghost use Rattle.netlist.specs.Netlists.{net_with};
 ghost use Rattle.net_sheet.specs.Reading.{net_read};

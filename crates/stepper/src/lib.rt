@@ -1,4 +1,6 @@
 // The public calls of the plain stepper: a drawing's first registers, and its cycles. The netlist is lent and not copied.
+#![tactic(auto)]
+
 ghost use Rattle.std.specs.Prelude.{◌≡◌, cond, get_or, replicate};
 ghost use Rattle.base.specs.Lists.{fill};
 ghost use Rattle.codes.specs.Rows.{is_reg};
