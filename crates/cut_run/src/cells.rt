@@ -60,13 +60,13 @@ fn with_cut(start: u32, cut: Cut) -> u32 {
     with_bytes(depth, &cut.label)
 }
 
-fn with_queues(start: u32, queues: Queues) -> u32 {
+fn with_queues(start: u32, queues: &Queues) -> u32 {
     let node = with_words(start, &queues.node);
     let from = with_bytes(node, &queues.from);
     with_bytes(from, &queues.into)
 }
 
-fn with_maps(start: u32, queues: Queues) -> u32 {
+fn with_maps(start: u32, queues: &Queues) -> u32 {
     let input = with_words(start, &queues.input);
     let a = with_words(input, &queues.a);
     let b = with_words(a, &queues.b);
@@ -74,7 +74,7 @@ fn with_maps(start: u32, queues: Queues) -> u32 {
 }
 
 // The sum over all arrays, one after the other.
-pub fn sum(cut: Cut, queues: Queues) -> u32 {
+pub fn sum(cut: Cut, queues: &Queues) -> u32 {
     with_maps(with_queues(with_cut(0, cut), queues), queues)
 }
 
@@ -82,13 +82,13 @@ fn cut_blank(cut: Cut, nodes: usize, count: usize, labels: usize) -> bool {
     bytes_blank(&cut.part, nodes) & bytes_blank(&cut.depth, count) & bytes_blank(&cut.label, labels)
 }
 
-fn queues_blank(queues: Queues, count: usize) -> bool {
+fn queues_blank(queues: &Queues, count: usize) -> bool {
     words_blank(&queues.node, count)
         & bytes_blank(&queues.from, count)
         & bytes_blank(&queues.into, count)
 }
 
-fn maps_blank(queues: Queues, nodes: usize) -> bool {
+fn maps_blank(queues: &Queues, nodes: usize) -> bool {
     words_blank(&queues.input, nodes)
         & words_blank(&queues.a, nodes)
         & words_blank(&queues.b, nodes)
@@ -96,7 +96,7 @@ fn maps_blank(queues: Queues, nodes: usize) -> bool {
 }
 
 // Whether all that stands past the counts is 0.
-pub fn clean(cut: Cut, queues: Queues) -> bool {
+pub fn clean(cut: Cut, queues: &Queues) -> bool {
     let nodes = cut.nodes;
     let count = cut.queues;
     let labels = cut.labels;
@@ -106,6 +106,6 @@ pub fn clean(cut: Cut, queues: Queues) -> bool {
 }
 
 // Whether all is 0.
-pub fn blank(cut: Cut, queues: Queues) -> bool {
+pub fn blank(cut: Cut, queues: &Queues) -> bool {
     cut_blank(cut, 0, 0, 0) & queues_blank(queues, 0) & maps_blank(queues, 0)
 }

@@ -1,6 +1,9 @@
 // Lists of 32-bit numbers: inputs, outputs and registers.
 ghost use Rattle.std.specs.Prelude.{◌≤◌, length};
 
+use std::io;
+use std::io::Write;
+
 // What a list is filled with before it is lent.
 pub const MARK: u32 = 0xA5A5A5A5;
 
@@ -52,30 +55,37 @@ pub fn same(a: &[u32; 1024], b: &[u32; 1024]) -> bool {
     true
 }
 
-fn put(x: u32) {
-    run_text::put_number(x as u64);
+fn put<W: Write>(out: &mut W, x: u32) -> io::Result<()> {
+    run_text::put_number(out, x as u64)
 }
 
 // Prints the first n numbers.
-pub fn put_first(list: &[u32; 1024], n: usize)
+pub fn put_first<W: Write>(out: &mut W, list: &[u32; 1024], n: usize) -> io::Result<()>
     requires { n ≤ 1024 }
 {
     let mut i = 0;
     while i < n {
-        put(list[i]);
+        put(out, list[i])?;
         i += 1;
     }
+    Ok(())
 }
 
 // Prints the registers' values at the REGs among the first n nodes.
-pub fn put_registers(code: &[u8; 1024], n: usize, regs: &[u32; 1024])
+pub fn put_registers<W: Write>(
+    out: &mut W,
+    code: &[u8; 1024],
+    n: usize,
+    regs: &[u32; 1024],
+) -> io::Result<()>
     requires { n ≤ 1024 }
 {
     let mut i = 0;
     while i < n {
         if code[i] == 0x02 {
-            put(regs[i]);
+            put(out, regs[i])?;
         }
         i += 1;
     }
+    Ok(())
 }

@@ -4,6 +4,8 @@ ghost use Rattle.std.specs.Prelude.{◌≤◌};
 use crate::lists::{MARK, marked, put_first, put_registers, same};
 use netlist::Netlist;
 use run_text::{least, put_either, put_number, put_word};
+use std::io;
+use std::io::Write;
 
 // The registers before the first cycle.
 fn first(net: Netlist, regs: &mut [u32; 1024]) {
@@ -121,49 +123,74 @@ fn one_by_one(
 }
 
 // Runs the cycles one by one, and prints whether registers and outputs come out as in `regs` and `outs`.
-fn again(net: Netlist, regs: &[u32; 1024], cycles: u32, ins: &[u32], outs: &[u32; 1024]) {
+fn again<W: Write>(
+    out: &mut W,
+    net: Netlist,
+    regs: &[u32; 1024],
+    cycles: u32,
+    ins: &[u32],
+    outs: &[u32; 1024],
+) -> io::Result<()> {
     let mut registers = [MARK; 1024];
     let mut list = [MARK; 1024];
     first(net, &mut registers);
     let answer = one_by_one(net, &mut registers, cycles, ins, &mut list);
     put_either(
+        out,
         (answer == 0) & same(&registers, regs) & same(&list, outs),
         b"same",
         b"DIFFERS",
-    );
+    )
 }
 
 // Prints the outputs, the registers, and whether every place past the outputs still holds the mark.
-fn show(net: Netlist, regs: &[u32; 1024], cycles: u32, outs: &[u32; 1024]) {
+fn show<W: Write>(
+    out: &mut W,
+    net: Netlist,
+    regs: &[u32; 1024],
+    cycles: u32,
+    outs: &[u32; 1024],
+) -> io::Result<()> {
     let end = given(net, cycles);
     let nodes = least(net.nodes, 1024);
-    put_word(b"outputs");
-    put_first(outs, end);
-    put_word(b"registers");
-    put_registers(&net.code, nodes, regs);
-    put_either(marked(outs, end), b"kept", b"SPOILT");
+    put_word(out, b"outputs")?;
+    put_first(out, outs, end)?;
+    put_word(out, b"registers")?;
+    put_registers(out, &net.code, nodes, regs)?;
+    put_either(out, marked(outs, end), b"kept", b"SPOILT")
 }
 
 // Prints whether the registers are still the first ones, and whether every place of the list still holds the mark.
-fn show_refused(net: Netlist, regs: &[u32; 1024], outs: &[u32; 1024]) {
+fn show_refused<W: Write>(
+    out: &mut W,
+    net: Netlist,
+    regs: &[u32; 1024],
+    outs: &[u32; 1024],
+) -> io::Result<()> {
     let mut registers = [MARK; 1024];
     first(net, &mut registers);
-    put_either(same(&registers, regs), b"kept", b"CHANGED");
-    put_either(marked(outs, 0), b"kept", b"SPOILT");
+    put_either(out, same(&registers, regs), b"kept", b"CHANGED")?;
+    put_either(out, marked(outs, 0), b"kept", b"SPOILT")
 }
 
 // Runs the cycles both ways, on a list of so many places, and prints what came of it.
-pub fn both(net: Netlist, cycles: u32, room: usize, ins: &[u32]) {
+pub fn both<W: Write>(
+    out: &mut W,
+    net: Netlist,
+    cycles: u32,
+    room: usize,
+    ins: &[u32],
+) -> io::Result<()> {
     let mut regs = [MARK; 1024];
     let mut outs = [MARK; 1024];
     let end = least(room, 1024);
     first(net, &mut regs);
     let answer = all(net, &mut regs, cycles, ins, &mut outs[0..end]);
-    put_number(answer as u64);
+    put_number(out, answer as u64)?;
     if answer == 0 {
-        show(net, &regs, cycles, &outs);
-        again(net, &regs, cycles, ins, &outs);
+        show(out, net, &regs, cycles, &outs)?;
+        again(out, net, &regs, cycles, ins, &outs)
     } else {
-        show_refused(net, &regs, &outs);
+        show_refused(out, net, &regs, &outs)
     }
 }

@@ -1,4 +1,6 @@
 // The lines of `trace`: commands read byte by byte, answers as texts, and what a sheet's file counts as.
+#![tactic(auto)]
+
 ghost use Rattle.std.specs.Prelude.{◌≡◌, true, cond, ◌&&◌, List, ◌∷◌, ◌++◌, ◌+◌, ◌-◌, ◌%◌, ◌≤◌, ◌<◌, eqb, length, drop};
 ghost use Rattle.layout.specs.Write.{placed};
 ghost use Rattle.lines.specs.Decimals.{decimal};
@@ -7,7 +9,7 @@ ghost use Rattle.lines.specs.Answers.{line_end, word, open_word, answer_text, va
 
 // What has been read of a line: how far its bytes go along the form of a command, and the command's kind and numbers so far. Kinds are 0 feed, 1 drain,
 // 2 fire and 3 round.
-#[derive(Drop)]
+#[derive(Clone, Copy)]
 pub struct Reading {
     pub place: u32,
     pub kind: u32,

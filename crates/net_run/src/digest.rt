@@ -4,7 +4,7 @@ ghost use Rattle.std.specs.Prelude.{◌<◌};
 use netlist::Netlist;
 
 // A sum that depends on the order, and all bits that were ever set.
-#[derive(Drop)]
+#[derive(Clone, Copy)]
 pub struct Digest {
     pub sum: u32,
     pub bits: u32,

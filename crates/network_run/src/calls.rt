@@ -3,14 +3,23 @@ use crate::lists::Lists;
 use orders::Played;
 use plans::Plan;
 use run_text::{least, put_number};
+use std::io;
+use std::io::Write;
 
-fn put_two(answer: u32, value: u32) {
-    put_number(answer as u64);
-    put_number(value as u64);
+fn put_two<W: Write>(out: &mut W, answer: u32, value: u32) -> io::Result<()> {
+    put_number(out, answer as u64)?;
+    put_number(out, value as u64)
 }
 
 // Feeds an input.
-pub fn feed(plan: Plan, j: u32, value: u32, cells: &mut [u32; 8192], used: &mut [u8; 512]) {
+pub fn feed<W: Write>(
+    out: &mut W,
+    plan: &Plan,
+    j: u32,
+    value: u32,
+    cells: &mut [u32; 8192],
+    used: &mut [u8; 512],
+) -> io::Result<()> {
     let inputs = plan.inputs;
     let answer = moves::feed_in(
         &plan.width,
@@ -22,37 +31,44 @@ pub fn feed(plan: Plan, j: u32, value: u32, cells: &mut [u32; 8192], used: &mut 
         cells,
         used,
     );
-    put_number(answer as u64);
+    put_number(out, answer as u64)
 }
 
 // Drains an output.
-pub fn drain(plan: Plan, j: u32, cells: &mut [u32; 8192], used: &mut [u8; 512]) {
+pub fn drain<W: Write>(
+    out: &mut W,
+    plan: &Plan,
+    j: u32,
+    cells: &mut [u32; 8192],
+    used: &mut [u8; 512],
+) -> io::Result<()> {
     let got = moves::drain_in(plan.inputs, plan.channels, plan.outputs, j, cells, used);
-    put_two(got.answer, got.value);
+    put_two(out, got.answer, got.value)
 }
 
 // Asks for the tokens of a queue.
-pub fn tokens(plan: Plan, q: u32, used: &[u8; 512]) {
+pub fn tokens<W: Write>(out: &mut W, plan: &Plan, q: u32, used: &[u8; 512]) -> io::Result<()> {
     let got = moves::tokens_in(plan.queues, used, q);
-    put_two(got.answer, got.value);
+    put_two(out, got.answer, got.value)
 }
 
 // Asks for the finished cycles of a part.
-pub fn finished(plan: Plan, p: u32, count: &[u32; 32]) {
+pub fn finished<W: Write>(out: &mut W, plan: &Plan, p: u32, count: &[u32; 32]) -> io::Result<()> {
     let got = moves::finished_in(plan.parts, count, p);
-    put_two(got.answer, got.value);
+    put_two(out, got.answer, got.value)
 }
 
 // Fires a rule.
-pub fn fire(
-    plan: Plan,
+pub fn fire<W: Write>(
+    out: &mut W,
+    plan: &Plan,
     rule: u32,
     cells: &mut [u32; 8192],
     used: &mut [u8; 512],
     flag: &mut [bool; 512],
     held: &mut [u32; 1024],
     count: &mut [u32; 32],
-) {
+) -> io::Result<()> {
     let answer = rounds::fire_in(
         &plan.code,
         &plan.width,
@@ -79,19 +95,20 @@ pub fn fire(
         held,
         count,
     );
-    put_number(answer as u64);
+    put_number(out, answer as u64)
 }
 
 // Asks whether a rule is ready.
-pub fn ready<'x>(
-    plan: Plan,
+pub fn ready<'x, W: Write>(
+    out: &mut W,
+    plan: &Plan,
     rule: u32,
     cells: &'x [u32; 8192],
     used: &'x [u8; 512],
     flag: &'x [bool; 512],
     held: &'x [u32; 1024],
     count: &'x [u32; 32],
-) {
+) -> io::Result<()> {
     let answer = rounds::ready_in(
         &plan.code,
         &plan.width,
@@ -118,18 +135,19 @@ pub fn ready<'x>(
         held,
         count,
     );
-    put_number(answer as u64);
+    put_number(out, answer as u64)
 }
 
 // A round.
-pub fn round(
-    plan: Plan,
+pub fn round<W: Write>(
+    out: &mut W,
+    plan: &Plan,
     cells: &mut [u32; 8192],
     used: &mut [u8; 512],
     flag: &mut [bool; 512],
     held: &mut [u32; 1024],
     count: &mut [u32; 32],
-) {
+) -> io::Result<()> {
     let fired = rounds::round_in(
         &plan.code,
         &plan.width,
@@ -155,20 +173,21 @@ pub fn round(
         held,
         count,
     );
-    put_number(0);
-    put_number(fired as u64);
+    put_number(out, 0)?;
+    put_number(out, fired as u64)
 }
 
 // A run of so many rounds.
-pub fn run(
-    plan: Plan,
+pub fn run<W: Write>(
+    out: &mut W,
+    plan: &Plan,
     most: u32,
     cells: &mut [u32; 8192],
     used: &mut [u8; 512],
     flag: &mut [bool; 512],
     held: &mut [u32; 1024],
     count: &mut [u32; 32],
-) {
+) -> io::Result<()> {
     let got = rounds::run_in(
         &plan.code,
         &plan.width,
@@ -195,14 +214,14 @@ pub fn run(
         held,
         count,
     );
-    put_number(got.answer as u64);
-    put_number(got.rounds as u64);
-    put_number(got.firings as u64);
+    put_number(out, got.answer as u64)?;
+    put_number(out, got.rounds as u64)?;
+    put_number(out, got.firings as u64)
 }
 
 // An order of three lists that have just their lengths.
 fn order_on<'x>(
-    plan: Plan,
+    plan: &Plan,
     kinds: &'x [u32],
     indexes: &'x [u32],
     values: &'x [u32],
@@ -247,7 +266,7 @@ fn order_on<'x>(
 
 // An order of the first a kinds, b indexes and c values, on the first `room` places of a list.
 fn order_of<'x>(
-    plan: Plan,
+    plan: &Plan,
     kinds: &'x [u32],
     indexes: &'x [u32],
     values: &'x [u32],
@@ -281,28 +300,26 @@ fn order_of<'x>(
 }
 
 // An order on a list of so many places, at most 64. What that list holds afterwards is printed as a sum.
-pub fn order(
-    plan: Plan,
-    lists: Lists,
+pub fn order<W: Write>(
+    out: &mut W,
+    plan: &Plan,
+    lists: &Lists,
     room: u32,
     cells: &mut [u32; 8192],
     used: &mut [u8; 512],
     flag: &mut [bool; 512],
     held: &mut [u32; 1024],
     count: &mut [u32; 32],
-) {
-    let kinds = lists.kinds;
-    let indexes = lists.indexes;
-    let values = lists.values;
+) -> io::Result<()> {
     let mut lent = [7777u32; 64];
     let got = order_of(
         plan,
-        &kinds.cell,
-        &indexes.cell,
-        &values.cell,
-        kinds.length,
-        indexes.length,
-        values.length,
+        &lists.kinds.cell,
+        &lists.indexes.cell,
+        &lists.values.cell,
+        lists.kinds.length,
+        lists.indexes.length,
+        lists.values.length,
         &mut lent,
         room as usize,
         cells,
@@ -311,9 +328,9 @@ pub fn order(
         held,
         count,
     );
-    put_number(got.answer as u64);
-    put_number(got.feeds as u64);
-    put_number(got.drains as u64);
-    put_number(got.firings as u64);
-    put_number(crate::cells::first_sum(&lent, room as usize) as u64);
+    put_number(out, got.answer as u64)?;
+    put_number(out, got.feeds as u64)?;
+    put_number(out, got.drains as u64)?;
+    put_number(out, got.firings as u64)?;
+    put_number(out, crate::cells::first_sum(&lent, room as usize) as u64)
 }

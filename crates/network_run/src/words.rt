@@ -11,7 +11,7 @@ struct Word {
 }
 
 // A command, and where its last word ends.
-#[derive(Drop)]
+#[derive(Clone, Copy)]
 pub struct Command {
     pub letter: u8,
     pub x: u32,

@@ -1,2 +1,4 @@
 pub mod Laws
+pub mod Fronts
+pub mod Inputs
 pub mod One

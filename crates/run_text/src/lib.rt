@@ -1,7 +1,15 @@
-// What the programs that run vectors share: words and lines of a text, hexadecimal, decimals, and what is printed.
-ghost use Rattle.std.specs.Prelude.{◌≡◌, ◌+◌, ◌-◌, ◌*◌, ◌/◌, ◌%◌, ◌^◌, ◌<◌, ◌≤◌, min, length, drop};
+// What the programs that run vectors share: words and lines of a text, hexadecimal, decimals, what is read and what is printed.
+#![tactic(auto)]
+
+ghost use Rattle.std.specs.Prelude.{◌≡◌, ℕ, ◌+◌, ◌-◌, ◌*◌, ◌/◌, ◌%◌, ◌^◌, ◌<◌, ◌≤◌, min, length, take, drop, List, cond, codes, IfSome, IfOk, OnOk, OnErr};
 ghost use Rattle.base.specs.Lists.{fill};
-ghost use Rattle.run_text.specs.Texts.{first_in, digit_of, byte_of, number_on, alike, all_are};
+ghost use Rattle.run_text.specs.Texts.{first_in, digit_of, byte_of, number_on, alike, all_are, spaced, hex_digit_of, hex_of, hex_text, image_text, AppendsFront};
+ghost use Rattle.std.specs.Fmt.{decimal};
+ghost use Rattle.std.specs.Io.KnownBytes.{Appends, Consumes};
+ghost use Rattle.std.specs.Io.{ReadsAtMost};
+
+use std::io;
+use std::io::{Error, ErrorKind, Read, Write};
 
 // The first place from `from` on that holds the byte, or the text's length.
 pub fn find(text: &[u8], from: usize, byte: u8) -> usize
@@ -127,59 +135,156 @@ fn untouched(a: &[u8], filler: u8) -> bool
     true
 }
 
-// Prints a word, after a space. What is printed stands in no promise: a contract speaks of what a call gives and leaves.
-pub fn put_word(word: &[u8])
-    ensures { result ≡ tt }
+// The functions that print take the writer to print on. On Ok it holds the whole text behind what it held. An error is the writer's own,
+// or says that it takes nothing more: it then holds a front of the text behind what it held, and nothing else.
+
+// Writes all of the bytes, in as many writes as it takes, and tries a write that was interrupted again. `write_all` does so too, but does
+// not say what an error leaves.
+fn put_all<W: Write>(out: &mut W, bytes: &[u8]) -> io::Result<()>
+    ensures done { IfOk result (λ r. r ≡ tt) }
+    ensures printed { OnOk result (Appends (W.contents out.old) (W.contents out.new) bytes.now) }
+    ensures failed { OnErr result (AppendsFront (W.contents out.old) (W.contents out.new) bytes.now) }
 {
-    io::write_all(1, b" ");
-    io::write_all(1, word);
+    let mut n = 0;
+    for _ in 0..u64::MAX {
+        if n >= bytes.len() {
+            return Ok(());
+        }
+        match out.write(&bytes[n..]) {
+            Ok(0) => return Err(Error::new(ErrorKind::WriteZero, "failed to write whole buffer")),
+            Ok(more) => n += more,
+            Err(e) => {
+                if e.kind() != ErrorKind::Interrupted {
+                    return Err(e);
+                }
+            }
+        }
+    }
+    Err(Error::new(ErrorKind::TimedOut, "gave up writing after 2^64 tries"))
+}
+
+// Prints a word, after a space.
+pub fn put_word<W: Write>(out: &mut W, word: &[u8]) -> io::Result<()>
+    ensures done { IfOk result (λ r. r ≡ tt) }
+    ensures printed { OnOk result (Appends (W.contents out.old) (W.contents out.new) (spaced word.now)) }
+    ensures failed { OnErr result (AppendsFront (W.contents out.old) (W.contents out.new) (spaced word.now)) }
+{
+    put_all(out, b" ")?;
+    put_all(out, word)
+}
+
+// The decimals of a number: those of its tenth, and its last digit.
+fn put_digits<W: Write>(out: &mut W, x: u64) -> io::Result<()>
+    ensures done { IfOk result (λ r. r ≡ tt) }
+    ensures printed { OnOk result (Appends (W.contents out.old) (W.contents out.new) (decimal x)) }
+    ensures failed { OnErr result (AppendsFront (W.contents out.old) (W.contents out.new) (decimal x)) }
+{
+    let front = x / 10;
+    if front > 0 {
+        put_digits(out, front)?;
+    }
+    put_all(out, &[b'0' + (x % 10) as u8])
 }
 
 // Prints a number in decimals, after a space.
-pub fn put_number(x: u64)
-    ensures { result ≡ tt }
+pub fn put_number<W: Write>(out: &mut W, x: u64) -> io::Result<()>
+    ensures done { IfOk result (λ r. r ≡ tt) }
+    ensures printed { OnOk result (Appends (W.contents out.old) (W.contents out.new) (spaced (decimal x))) }
+    ensures failed { OnErr result (AppendsFront (W.contents out.old) (W.contents out.new) (spaced (decimal x))) }
 {
-    io::write_all(1, b" ");
-    io::print_decimal(1, x);
+    put_all(out, &[b' '])?;
+    put_digits(out, x)
 }
 
-fn put_byte(x: u8) {
-    io::print_hex(1, x as u64, 2);
+// The hexadecimal digit of a number below 16.
+fn hex_digit(x: u8) -> u8
+    requires { x < 16 }
+    ensures { result ≡ hex_digit_of x }
+{
+    if x < 10 { b'0' + x } else { b'a' - 10 + x }
+}
+
+fn put_byte<W: Write>(out: &mut W, x: u8) -> io::Result<()>
+    ensures printed { OnOk result (Appends (W.contents out.old) (W.contents out.new) (hex_of x)) }
+    ensures failed { OnErr result (AppendsFront (W.contents out.old) (W.contents out.new) (hex_of x)) }
+{
+    put_all(out, &[hex_digit(x / 16), hex_digit(x % 16)])
 }
 
 // Prints the bytes in hexadecimal, after 'x'.
-pub fn put_hex(a: &[u8])
-    ensures { result ≡ tt }
+pub fn put_hex<W: Write>(out: &mut W, a: &[u8]) -> io::Result<()>
+    ensures done { IfOk result (λ r. r ≡ tt) }
+    ensures printed { OnOk result (Appends (W.contents out.old) (W.contents out.new) (hex_text a.now)) }
+    ensures failed { OnErr result (AppendsFront (W.contents out.old) (W.contents out.new) (hex_text a.now)) }
 {
-    put_word(b"x");
+    put_word(out, b"x")?;
     let mut i = 0;
     while i < a.len() {
-        put_byte(a[i]);
+        put_byte(out, a[i])?;
         i += 1;
     }
+    Ok(())
 }
 
 // Prints one of two words.
-pub fn put_either(first: bool, word: &[u8], other: &[u8])
-    ensures { result ≡ tt }
+pub fn put_either<W: Write>(out: &mut W, first: bool, word: &[u8], other: &[u8]) -> io::Result<()>
+    ensures done { IfOk result (λ r. r ≡ tt) }
+    ensures printed { OnOk result (Appends (W.contents out.old) (W.contents out.new) (spaced (cond first word.now other.now))) }
+    ensures failed { OnErr result (AppendsFront (W.contents out.old) (W.contents out.new) (spaced (cond first word.now other.now))) }
 {
     if first {
-        put_word(word);
+        put_word(out, word)
     } else {
-        put_word(other);
+        put_word(out, other)
+    }
+}
+
+// Prints an image, as the word `same` where it is the sheet, and else its bytes.
+fn put_same<W: Write>(out: &mut W, image: &[u8], sheet: &[u8]) -> io::Result<()>
+    ensures printed { OnOk result (Appends (W.contents out.old) (W.contents out.new) (cond (alike image.now sheet.now) (spaced (codes "same")) (hex_text image.now))) }
+    ensures failed { OnErr result (AppendsFront (W.contents out.old) (W.contents out.new) (cond (alike image.now sheet.now) (spaced (codes "same")) (hex_text image.now))) }
+{
+    if same(image, sheet) {
+        put_word(out, b"same")
+    } else {
+        put_hex(out, image)
     }
 }
 
 // Prints the first `length` bytes of a buffer that was filled with A5, where they are not those of the sheet, and whether every byte
 // past them is still A5.
-pub fn put_image(buffer: &[u8], length: usize, sheet: &[u8])
-    ensures { result ≡ tt }
+pub fn put_image<W: Write>(
+    out: &mut W,
+    buffer: &[u8],
+    length: usize,
+    sheet: &[u8],
+) -> io::Result<()>
+    ensures done { IfOk result (λ r. r ≡ tt) }
+    ensures printed { OnOk result (Appends (W.contents out.old) (W.contents out.new)
+        (image_text (take length buffer.now) (drop length buffer.now) sheet.now)) }
+    ensures failed { OnErr result (AppendsFront (W.contents out.old) (W.contents out.new)
+        (image_text (take length buffer.now) (drop length buffer.now) sheet.now)) }
 {
     let end = least(length, buffer.len());
-    if same(&buffer[0..end], sheet) {
-        put_word(b"same");
-    } else {
-        put_hex(&buffer[0..end]);
+    put_same(out, &buffer[0..end], sheet)?;
+    put_either(out, untouched(&buffer[end..], 0xA5), b"kept", b"SPOILT")
+}
+
+// Reads into `bytes` until they are full or the input ends, and gives how many bytes it put at their front. An error is the reader's own:
+// what was read before it is lost, and the reader has the rest.
+pub fn read_full<R: Read>(input: &mut R, bytes: &mut [u8]) -> io::Result<usize>
+    ensures bound { ReadsAtMost result bytes.new }
+    ensures read { IfOk result (λ n. Consumes (R.remaining input.old) (R.remaining input.new) (take n bytes.new)) }
+    ensures count { IfOk result (λ n. IfSome (R.remaining input.old) (λ xs. n ≡ min (length bytes.old) (length xs))) }
+    ensures failed { OnErr result ((bs : List ℕ) × Consumes (R.remaining input.old) (R.remaining input.new) bs) }
+{
+    let mut n = 0;
+    while n < bytes.len() {
+        let more = input.read(&mut bytes[n..])?;
+        if more == 0 {
+            return Ok(n);
+        }
+        n += more;
     }
-    put_either(untouched(&buffer[end..], 0xA5), b"kept", b"SPOILT");
+    Ok(n)
 }

@@ -1,13 +1,13 @@
 -- A block: what is still to be read, from here, gives the whole block's result; what is written is the front of `out`.
 use mathlib.Core.Path.{◌≡◌, refl, sym, ap, ◌∙◌}
-use mathlib.Core.Bool.{Bool, true, false, cond, ◌&&◌}
-use mathlib.Core.List.{List, [], ◌∷◌, ◌++◌, append-nil}
-use Prim.Native.Nat.{ℕ, zero, suc, ◌+◌, ◌-◌, ◌≤◌, ◌<◌}
+use mathlib.Core.Bool.{Bool, true, false, ◌&&◌}
+use mathlib.Core.List.{List, [], ◌∷◌, ◌++◌}
+use Prim.Native.Nat.{ℕ, suc, ◌+◌, ◌-◌, ◌≤◌, ◌<◌}
 use native.Mathlib.Nat.{min-eq_left}
 use native.Mathlib.Numerals.{add-one}
 use native.Mathlib.Omega.{arith}
 use borrow.Author.Tests.{leb-true, le-leb, ltb-true, ltb-false, lt-ltb, le-ltb}
-use lib.Dec.{eqb, leb, ltb}
+use lib.Dec.{leb, ltb}
 use lib.ListN.{length, take, drop, get_or, length-take, length-append, length-drop}
 use lib.Seq.{drop-cons, take-append_seam}
 use Rattle.base.proofs.Tests.{and_left, and_right}
@@ -17,9 +17,8 @@ use Rattle.layout.specs.Write.{placed}
 use Rattle.plans.specs.declared.Plan.{Plan}
 use Rattle.spots.specs.declared.Network.{Network}
 use Rattle.lines.specs.declared.Reading.{Reading}
-use Rattle.traces.specs.declared.Block.{Block}
 use Rattle.traces.specs.declared.Step.{Step}
-use Rattle.traces.specs.Traces.{byte_on, BytePlayed, TraceOn, trace_of, trace_on, has_room, BlockOn, more, block_on, block_given, BlockPlayed}
+use Rattle.traces.specs.Traces.{byte_on, BytePlayed, TraceOn, trace_of, trace_on, has_room, BlockOn, more, block_on, BlockPlayed}
 
 -- one byte more
 turn : (P : Plan) (room : ℕ) (t : TraceOn) (input : List ℕ) (read : ℕ) → read < length input → has_room (length t.said) room ≡ true → more read (block_on P room t (drop read input)) ≡ more (read + 1) (block_on P room (trace_on P t (get_or input read 0)) (drop (read + 1) input))

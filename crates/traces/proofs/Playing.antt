@@ -2,9 +2,9 @@
 use mathlib.Core.Path.{◌≡◌, refl, sym, ap, ◌∙◌}
 use mathlib.Core.Bool.{Bool, true, false, cond, ◌&&◌}
 use mathlib.Core.List.{List, []}
-use Prim.Native.Nat.{ℕ, ◌+◌, ◌-◌, ◌≤◌}
+use Prim.Native.Nat.{ℕ, ◌+◌, ◌≤◌}
 use native.Mathlib.Omega.{arith}
-use borrow.Author.Tests.{leb-true, leb-false, le-leb, lt-leb}
+use borrow.Author.Tests.{leb-true, leb-false, le-leb}
 use lib.Dec.{eqb, leb}
 use lib.ListN.{length}
 use Rattle.base.proofs.Patch.{patch-none}
@@ -19,7 +19,7 @@ use Rattle.orders.specs.Orders.{entry_of, ActOn, act_on, Acts}
 use Rattle.lines.specs.declared.Reading.{Reading}
 use Rattle.lines.specs.Commands.{nothing, byte_read, is_command}
 use Rattle.lines.specs.Answers.{answer_text, value_text}
-use Rattle.traces.specs.Traces.{LineOn, line_of, act_text, line_on, LinePlayed, byte_on, BytePlayed, has_room}
+use Rattle.traces.specs.Traces.{LineOn, line_of, act_text, line_on, LinePlayed, byte_on, BytePlayed}
 
 -- ---- room
 

@@ -1,5 +1,5 @@
 -- `trace` on a network's arrays: a line played, its answer as a text, and the bytes of the input one after the other (outline, "The bench example, whole").
-use Rattle.std.specs.Prelude.{◌≡◌, Bool, cond, ◌&&◌, List, [], ◌∷◌, ◌++◌, ℕ, suc, ◌+◌, eqb, leb, length}
+use Rattle.std.specs.Prelude.{◌≡◌, Bool, cond, ◌&&◌, List, [], ◌∷◌, ◌++◌, ℕ, ◌+◌, eqb, leb, length}
 use Rattle.base.specs.Lists.{patch}
 use Rattle.layout.specs.Write.{placed}
 use Rattle.plans.specs.declared.Plan.{Plan}

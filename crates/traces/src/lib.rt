@@ -1,10 +1,12 @@
 // Commands of `trace` played on a network's lent arrays: bytes of input in, bytes of output out.
+#![tactic(auto)]
+
 ghost use Rattle.std.specs.Prelude.{◌≡◌, ℕ, ◌≤◌, length};
 ghost use Rattle.spots.specs.Stores.{net_in, plan_in};
 ghost use Rattle.traces.specs.Traces.{LinePlayed, BytePlayed, BlockPlayed, has_room};
 
 // What a block of input gives: how many of its bytes were read, how many bytes were written, and what has been read of the line that it ends in.
-#[derive(Drop)]
+#[derive(Clone, Copy)]
 pub struct Block {
     pub read: usize,
     pub wrote: usize,
@@ -12,7 +14,7 @@ pub struct Block {
 }
 
 // What a byte gives: how many bytes were written, and what has been read of its line.
-#[derive(Drop)]
+#[derive(Clone, Copy)]
 struct Step {
     wrote: usize,
     reading: lines::Reading,

@@ -1,46 +1,66 @@
 // Walks over the records of the sheet `net.sheet` of the folder that it is run in, and prints a line for each: its number, its code, width, a, b, c and k, and how
 // many are left with it. A last line says that none is left. It uses the walker by its functions with plain parameters, and so needs no walk of its own.
-use run_text::{put_number, put_word};
+#![tactic(auto)]
+
+ghost use Rattle.std.specs.Prelude.{◌≤◌, length};
+
+use std::io::Read;
+use std::rt::Files;
+use std::{fs, io};
+
+// Reads until `sheet` is full, the file ends or a read fails; how many bytes stand at the start of `sheet`.
+fn fill(file: &mut impl Read, sheet: &mut [u8]) -> usize
+    ensures { result ≤ length sheet.new }
+{
+    let mut n = 0;
+    while n < sheet.len() {
+        let more = file.read(&mut sheet[n..]).unwrap_or(0);
+        if more == 0 {
+            return n;
+        }
+        n += more;
+    }
+    n
+}
+
+// The bytes of the sheet's file, put into `sheet`; none where it is missing.
+fn read_sheet(rt: &impl Files, sheet: &mut [u8]) -> usize
+    ensures { result ≤ length sheet.new }
+{
+    match fs::open(rt, "net.sheet") {
+        Ok(mut file) => fill(&mut file, sheet),
+        Err(_) => 0,
+    }
+}
 
 // How many records are left from a number on.
-fn put_left(sheet: &[u8], number: usize) {
-    put_word(b"left");
-    put_number(walker::records_left(sheet, number) as u64);
-    io::write_all(1, b"\n");
+fn put_left(rt: &impl Print, sheet: &[u8], number: usize) -> io::Result<()> {
+    let left = walker::records_left(sheet, number);
+    println!(rt; " left {left}")
 }
 
 // A record's fields, in the sheet's order.
-fn put_fields(r: codes::Record) {
-    put_number(r.code as u64);
-    put_number(r.width as u64);
-    put_number(r.a as u64);
-    put_number(r.b as u64);
-    put_number(r.c as u64);
-    put_number(r.k as u64);
+fn put_fields(rt: &impl Print, r: codes::Record) -> io::Result<()> {
+    print!(rt; " {} {} {} {} {} {}", r.code, r.width, r.a, r.b, r.c, r.k)
 }
 
-fn put_start(number: usize) {
-    io::print_decimal(1, number as u64);
-    io::write_all(1, b":");
+fn put_start(rt: &impl Print, number: usize) -> io::Result<()> {
+    print!(rt; "{number}:")
 }
 
-fn run(sheet: &[u8]) {
+fn run(rt: &impl Print, sheet: &[u8]) -> io::Result<()> {
     let records = walker::records_left(sheet, 0);
-    let mut i = 0;
-    while i < records {
-        put_start(i);
-        put_fields(walker::walked(sheet, i));
-        put_left(sheet, i);
-        i += 1;
+    for i in 0..records {
+        put_start(rt, i)?;
+        put_fields(rt, walker::walked(sheet, i))?;
+        put_left(rt, sheet, i)?;
     }
-    put_start(i);
-    put_left(sheet, i);
+    put_start(rt, records)?;
+    put_left(rt, sheet, records)
 }
 
-fn main() {
+fn main(rt: HostRuntime) -> io::Result<()> {
     let mut sheet = [0u8; 32768];
-    let fd = os::open_read(b"net.sheet");
-    let n = io::read_full(fd, &mut sheet);
-    libc::close(fd);
-    run(&sheet[0..n]);
+    let n = read_sheet(&rt, &mut sheet);
+    run(&rt, &sheet[0..n])
 }

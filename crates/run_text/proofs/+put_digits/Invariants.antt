@@ -1,0 +1,5 @@
+-- `run_text::put_digits` ends: a number's tenth is smaller.
+use Rattle.run_text.proofs.+put_digits.Given as goal
+
+abbrev pub decreases-put_digits : goal.decreases-put_digits
+decreases-put_digits g l = l.x
