@@ -99,7 +99,7 @@ pub fn left<'a>(w: Walker<'a>) -> usize
     records_left(w.sheet, w.number)
 }
 
-// The record that a walker stands at after so many steps from record 0. Its parameters are plain, so that a caller needs no walk.
+// The record that a walker stands at after so many steps from record 0, for a caller that has the sheet and no walker.
 pub fn walked(sheet: &[u8], steps: usize) -> codes::Record
     ensures { result ≡ stands_at sheet.now steps }
 {

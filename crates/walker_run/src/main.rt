@@ -1,5 +1,5 @@
 // Walks over the records of the sheet `net.sheet` of the folder that it is run in, and prints a line for each: its number, its code, width, a, b, c and k, and how
-// many are left with it. A last line says that none is left. It uses the walker by its functions with plain parameters, and so needs no walk of its own.
+// many are left with it. A last line says that none is left. It uses the walker by its functions of a sheet and a number.
 #![tactic(auto)]
 
 ghost use Rattle.std.specs.Prelude.{◌≤◌, length};
