@@ -1,10 +1,9 @@
 -- What an order of actions promises: what the order of three lists does, of their kinds, their indexes and their values.
-use Rattle.std.specs.Prelude.{◌≡◌, List, map, ℕ, ◌<◌, ◌^◌, ◌-◌}
+use Rattle.std.specs.Prelude.{List, map, ℕ}
 use Rattle.nets.specs.Orders.{Entry, entry_at}
 use Rattle.plans.specs.declared.Plan.{Plan}
-use Rattle.spots.specs.declared.Network.{Network}
+use Rattle.lanes.specs.declared.Network.{Network}
 use Rattle.orders.specs.declared.Played.{Played}
-use Rattle.orders.specs.Orders.{entry_of, act_on, playing, tried_on}
 use Rattle.rules.specs.Calls.{OrderCall}
 use Rattle.actions.specs.declared.Action.{Action}
 
@@ -24,15 +23,6 @@ values_of actions = map (λ a. a.value) actions
 
 abbrev pub entries_of : List Action → ℕ → Entry
 entries_of actions = entry_at (kinds_of actions) (indexes_of actions) (values_of actions)
-
--- one action tried on what is done so far, whose counts can still grow by one
-abbrev pub Tried : Plan → Network → List ℕ → ℕ → ℕ → ℕ → ℕ → ℕ → ℕ → Played → Network → List ℕ → Type 0
-Tried P L lent kind index value feeds drains firings r M lent' =
-    feeds < 2 ^ 64 - 1
-    → drains < 2 ^ 64 - 1
-    → firings < 2 ^ 64 - 1
-    → (r.answer ≡ 0)
-    × (playing M r.feeds r.drains r.firings lent' ≡ tried_on (playing L feeds drains firings lent) (entry_of kind index value) (act_on P L (entry_of kind index value)))
 
 -- the whole order: its lists have one length, so it is never refused as 12
 abbrev pub ActionsCall : Plan → Network → List Action → List ℕ → Played → Network → List ℕ → Type 0

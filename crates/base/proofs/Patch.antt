@@ -1,11 +1,13 @@
 -- Bytes written into a list: a further stretch behind the first is one stretch, and the length stays.
-use mathlib.Core.Path.{◌≡◌, sym, ◌∙◌}
+use mathlib.Core.Path.{◌≡◌, refl, sym, ◌∙◌}
 use mathlib.Core.List.{List, [], ◌++◌, append_assoc, append-nil}
 use Prim.Native.Nat.{ℕ, ◌+◌, ◌≤◌}
 use native.Mathlib.Nat.{add-zero, add_assoc}
 use native.Mathlib.Omega.{arith}
 use lib.ListN.{length, take, drop, length-append, length-drop, take-append-drop}
-use lib.Seq.{length-take-le, drop-append-add, drop-drop, sets, sets-eq, take_at, paste, take-length}
+use lib.Seq.{length-take-le, drop-append-add, drop-drop, take_at, paste, take-length}
+use borrow.Rule.Slice.PartMut.{put_mid}
+use Rattle.std.proofs.lemmas.Slice.{put_mid-paste}
 use Rattle.base.specs.Lists.{patch}
 
 pub patch-none : (xs : List ℕ) (i : ℕ) → patch xs i [] ≡ xs
@@ -29,11 +31,6 @@ patch-patch xs i j bs cs h e =
     rw (take_at (take i xs ++ bs) (drop (i + length bs) xs) j l, ← l, drop-append-add (take i xs ++ bs) (drop (i + length bs) xs) (length cs), drop-drop (length cs) (i + length bs) xs, length-append bs cs)
     (rw (append_assoc (take i xs) bs cs, add_assoc i (length bs) (length cs)))
 
--- stores one behind the other
-pub sets-patch : (xs : List ℕ) (i : ℕ) (bs : List ℕ) → i + length bs ≤ length xs → sets xs i bs ≡ patch xs i bs
-unfolding patch
-sets-patch xs i bs h = sets-eq bs xs i h
-
 -- a copy, element by element, that has come to its end
 pub paste-patch : (xs : List ℕ) (i : ℕ) (bs : List ℕ) (n : ℕ) → n ≡ length bs → paste xs i bs n ≡ patch xs i bs
 unfolding patch
@@ -49,3 +46,7 @@ unfolding patch
 patch-front xs bs =
     let e : 0 + length bs ≡ length bs = omega arith in
     rw e
+
+-- a part of a list written over by other bytes, as a copy into it leaves the list
+pub put_mid-patch : (i k : ℕ) (xs ys bs : List ℕ) → ys ≡ bs → k ≡ length bs → put_mid i k xs ys ≡ patch xs i bs
+put_mid-patch i k xs ys bs e h = put_mid-paste i k xs ys bs k e refl h ∙ paste-patch xs i bs k h

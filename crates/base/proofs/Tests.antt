@@ -1,12 +1,17 @@
 -- Tests joined by `&&`, and tests of each of n entries.
-use mathlib.Core.Path.{◌≡◌, refl}
+use mathlib.Core.Path.{◌≡◌, refl, sym, ◌∙◌, ap}
+use mathlib.Core.List.{List}
 use mathlib.Core.Bool.{Bool, true, false, ◌&&◌}
 use mathlib.Core.Logic.{⊎_elim}
-use Prim.Native.Nat.{ℕ, zero, suc, ◌+◌, ◌<◌}
+use Prim.Native.Nat.{ℕ, zero, suc, ◌+◌, ◌<◌, ◌≤◌}
 use native.Mathlib.Nat.{not-suc-le-zero, le_of_suc-le-suc, eq-or-lt_of_le}
 use native.Mathlib.Numerals.{add-one}
 use native.Mathlib.Omega.{arith}
 use lib.Dec.{T}
+use lib.ListN.{length, get_or, take}
+use lib.Seq.{take-length}
+use Rattle.std.specs.List.{list_all}
+use Rattle.std.proofs.lemmas.List.Folds.{list_all_more}
 use Rattle.base.specs.Checks.{every}
 
 pub and_left : (a b : Bool) → (a && b) ≡ true → a ≡ true
@@ -50,7 +55,7 @@ every_at good (suc n) e k h =
     (λ l. every_at good n (and_right (good n) (every good n) e) k l)
     (eq-or-lt_of_le (le_of_suc-le-suc h))
 
-false_or_true : (b : Bool) → (b ≡ true → ⊥) → b ≡ false
+pub false_or_true : (b : Bool) → (b ≡ true → ⊥) → b ≡ false
 false_or_true true f = absurd (f refl)
 false_or_true false f = refl
 
@@ -71,3 +76,20 @@ and_four a b c d e =
     let abc : (a && b && c) ≡ true = and_left (a && b && c) d e in
     let ab : (a && b) ≡ true = and_left (a && b) c abc in
     (and_left a b ab, and_right a b ab, and_right (a && b) c abc, and_right (a && b && c) d e)
+
+and_swap : (a b : Bool) → (a && b) ≡ (b && a)
+and_swap true true = refl
+and_swap true false = refl
+and_swap false true = refl
+and_swap false false = refl
+
+-- a test of every element of a list is one of every place
+so_far : (p : ℕ → Bool) (good : ℕ → Bool) (xs : List ℕ) → ((i : ℕ) → i < length xs → p (get_or xs i 0) ≡ good i) → (n : ℕ) → n ≤ length xs → list_all p (take n xs) ≡ every good n
+so_far p good xs h zero l = refl
+so_far p good xs h (suc n) l =
+    ap (λ k. list_all p (take k xs)) (sym (add-one n))
+    ∙ list_all_more p xs n 0 l
+    ∙ rw (so_far p good xs h n (omega arith), h n l) (and_swap (every good n) (good n))
+
+pub all-every : (p : ℕ → Bool) (good : ℕ → Bool) (xs : List ℕ) → ((i : ℕ) → i < length xs → p (get_or xs i 0) ≡ good i) → list_all p xs ≡ every good (length xs)
+all-every p good xs h = ap (λ ys. list_all p ys) (sym (take-length xs)) ∙ so_far p good xs h (length xs) (omega arith)

@@ -1,10 +1,12 @@
 -- Widths: 2 ^ w as the machine makes it, and what 32 bits wrap, in w bits. Stated once over w.
-use mathlib.Core.Path.{◌≡◌, sym, ap, ◌∙◌}
-use Prim.Native.Nat.{ℕ, ◌+◌, ◌-◌, ◌*◌, ◌/◌, ◌%◌, ◌^◌, ◌≤◌, ◌<◌}
-use native.Mathlib.Nat.{one-mul, add-mul, mod-lt, div-add-mod', mod-add-mod, add-mod_right, add-mul-mod_self_right, mul-add-mod_self_right}
+use mathlib.Core.Path.{◌≡◌, refl, sym, ap, ◌∙◌}
+use mathlib.Core.Bool.{Bool, true, false}
+use Prim.Native.Nat.{ℕ, ◌+◌, ◌-◌, ◌*◌, ◌/◌, ◌%◌, ◌^◌, ◌≤◌, ◌<◌, min}
+use native.Mathlib.Nat.{min-eq_left, min-eq_right, one-mul, add-mul, mod-lt, div-add-mod', mod-add-mod, add-mod_right, add-mul-mod_self_right, mul-add-mod_self_right}
 use native.Mathlib.Omega.{arith}
-use lib.Dec.{lit<}
-use lib.Pow.{pow_pos, pow-add, shl_exact, shr_lt, mod-mod-pow}
+use borrow.Author.Tests.{leb-true, leb-false, lt-ltb}
+use lib.Dec.{lit<, leb, ltb}
+use lib.Pow.{pow_pos, pow_mono, pow-add, shl_exact, shr_lt, mod-mod-pow}
 
 pub one_shl : (w : ℕ) → w ≤ 32 → (1 * 2 ^ w) % 2 ^ 64 ≡ 2 ^ w
 one_shl w h = shl_exact {a = 1} 1 w 64 (lit< tt) (omega arith) ∙ one-mul (2 ^ w)
@@ -44,3 +46,14 @@ not_down w x h b =
     let m : Q * P ≡ s * P + q * P + 1 * P = ap (λ (n : ℕ). n * P) g ∙ simp add-mul in
     let t : 2 ^ 32 - 1 - x ≡ s * P + (P - 1 - x % P) = omega (arith, div-add-mod' x P, mod-lt x (pow_pos w)) in
     ap (λ (n : ℕ). n % P) t ∙ mul-add-mod_self_right s P (P - 1 - x % P)
+
+-- a number of 32 bits is below 2 ^ w by the bits that it has
+clip : (x w : ℕ) → x < 2 ^ 32 → (b : Bool) → leb w 32 ≡ b → ltb x (2 ^ min w 32) ≡ ltb x (2 ^ w)
+clip x w h true e = ap (λ n. ltb x (2 ^ n)) (min-eq_left (leb-true w 32 e))
+clip x w h false e =
+    let l : 32 < w = leb-false w 32 e in
+    let m : min w 32 ≡ 32 = min-eq_right {n = 32} {m = w} (omega arith) in
+    rw m (lt-ltb x (2 ^ 32) h ∙ sym (lt-ltb x (2 ^ w) (omega (arith, pow_mono {i = 32} {j = w} (omega arith)))))
+
+pub below_clipped : (x w : ℕ) → x < 2 ^ 32 → ltb x (2 ^ min w 32) ≡ ltb x (2 ^ w)
+below_clipped x w h = clip x w h (leb w 32) refl

@@ -1,7 +1,7 @@
 // The nineteen codes: their table, and the rule of a record.
 #![tactic(auto)]
 
-ghost use Rattle.std.specs.Prelude.{◌≡◌, ℕ, ◌<◌, ◌≤◌, ◌^◌, ltb, get_or};
+ghost use Rattle.std.specs.Prelude.{◌≡◌, ◌<◌, get_or, SomeIff};
 ghost use Rattle.codes.specs.Rows.{row_at, place_of, count_of};
 ghost use Rattle.codes.specs.Packed.{counts_at};
 ghost use Rattle.codes.specs.Records.{operand_good, field_good, fields_good, uses_k, widths_good, record_good};
@@ -51,6 +51,16 @@ pub struct Record {
     pub c: u16,
     pub k: u32,
 }
+
+// The record of zeros, where there is none.
+pub const NO_RECORD: Record = Record {
+    code: 0,
+    width: 0,
+    a: 0,
+    b: 0,
+    c: 0,
+    k: 0,
+};
 
 const REG: u8 = 0x02;
 
@@ -152,18 +162,18 @@ const ROWS: [Row; 19] = [
     },
 ];
 
-// The place of a code's row in the table, 19 for no code: the codes fall in ranges by the operands they take.
-fn row_place(code: u8) -> usize
-    ensures { result ≡ place_of code }
+// The place of a code's row in the table; none where there is no such code. The codes fall in ranges by the operands they take.
+fn row_place(code: u8) -> Option<usize>
+    ensures { SomeIff result (place_of code < 19) (place_of code) }
 {
     match code {
-        0x00..=0x02 => code as usize,
-        0x10..=0x13 => code as usize - 0x0D,
-        0x20..=0x24 => code as usize - 0x19,
-        0x30..=0x31 => code as usize - 0x24,
-        0x40..=0x41 => code as usize - 0x32,
-        0x50..=0x52 => code as usize - 0x40,
-        _ => 19,
+        0x00..=0x02 => Some(code as usize),
+        0x10..=0x13 => Some(code as usize - 0x0D),
+        0x20..=0x24 => Some(code as usize - 0x19),
+        0x30..=0x31 => Some(code as usize - 0x24),
+        0x40..=0x41 => Some(code as usize - 0x32),
+        0x50..=0x52 => Some(code as usize - 0x40),
+        _ => None,
     }
 }
 
@@ -173,6 +183,14 @@ fn row_at(i: usize) -> Row
     ensures { result ≡ row_at i }
 {
     ROWS[i]
+}
+
+// The row of a code; none where there is no such code.
+fn row_of(code: u8) -> Option<Row>
+    ensures { SomeIff result (place_of code < 19) (row_at (place_of code)) }
+{
+    let place = row_place(code)?;
+    Some(row_at(place))
 }
 
 // Whether x is an operand that node i may have.
@@ -198,19 +216,7 @@ fn field_good(used: bool, code: u8, i: usize, nodes: usize, x: u16) -> bool
 fn uses_k(rule: Rule) -> bool
     ensures { result ≡ uses_k rule }
 {
-    match rule {
-        Rule::Constant => true,
-        Rule::Register => true,
-        Rule::Part => true,
-        Rule::Free => false,
-        Rule::Same => false,
-        Rule::Flag => false,
-        Rule::Pair => false,
-        Rule::Compare => false,
-        Rule::Shift => false,
-        Rule::Choose => false,
-        Rule::Join => false,
-    }
+    matches!(rule, Rule::Constant | Rule::Register | Rule::Part)
 }
 
 // Whether the record's operands exist and its unused fields are zero.
@@ -225,23 +231,14 @@ fn fields_good(row: Row, r: Record, i: usize, nodes: usize) -> bool
         & (uses_k(rule) | (r.k == 0))
 }
 
-// Whether k is below 2^w.
-fn below(k: u32, w: u8) -> bool
-    requires { w ≤ 32 }
-    ensures { result ≡ ltb k (2 ^ w) }
-{
-    (k as u64) < (1u64 << w)
-}
-
 // Whether the widths w of the record and x, y, z of its operands, and k, meet the rule.
 fn widths_good(rule: Rule, w: u8, x: u8, y: u8, z: u8, k: u32) -> bool
-    requires { w ≤ 32 }
     ensures { result ≡ widths_good rule w x y z k }
 {
     match rule {
         Rule::Free => true,
-        Rule::Constant => below(k, w),
-        Rule::Register => (x == w) & below(k, w),
+        Rule::Constant => base::below(k, w),
+        Rule::Register => (x == w) & base::below(k, w),
         Rule::Same => x == w,
         Rule::Flag => w == 1,
         Rule::Pair => (x == w) & (y == w),
@@ -257,38 +254,28 @@ fn widths_good(rule: Rule, w: u8, x: u8, y: u8, z: u8, k: u32) -> bool
 fn width_at(width: &[u8], x: u16) -> u8
     ensures { result ≡ get_or width.now x 0 }
 {
-    let i = x as usize;
-    if i < width.len() { width[i] } else { 0 }
+    width.get(x as usize).copied().unwrap_or(0)
 }
 
 // Whether record i of so many nodes, whose widths are given, is good.
 pub fn record_good(r: Record, i: usize, nodes: usize, width: &[u8]) -> bool
     ensures { result ≡ record_good width.now nodes i r }
 {
-    let place = row_place(r.code);
-    if 19 <= place {
+    let Some(row) = row_of(r.code) else {
         return false;
-    }
-    let row = row_at(place);
+    };
     let w = r.width;
-    if w < 1 {
-        return false;
-    }
-    if 32 < w {
-        return false;
-    }
-    if !fields_good(row, r, i, nodes) {
-        return false;
-    }
-    let rule = row.rule;
-    widths_good(
-        rule,
-        w,
-        width_at(width, r.a),
-        width_at(width, r.b),
-        width_at(width, r.c),
-        r.k,
-    )
+    (1 <= w)
+        & (w <= 32)
+        & fields_good(row, r, i, nodes)
+        & widths_good(
+            row.rule,
+            w,
+            width_at(width, r.a),
+            width_at(width, r.b),
+            width_at(width, r.c),
+            r.k,
+        )
 }
 
 // The counts of the 32 codes from 32 times q on, two bits for each.
@@ -303,7 +290,8 @@ fn counts_at(q: u8) -> u64
     }
 }
 
-// How many operands a code takes; none where there is no such code. Packed, since the table is stored anew at each look and ranges are jumps.
+// How many operands a code takes; none where there is no such code. Packed, and not read off the row: opening a network asks it of every node, the jumps of a
+// `match` took their time there, and opening is only just within its bar of docs/SPEED.md.
 pub fn operand_count(code: u8) -> u8
     ensures { result ≡ count_of code }
 {

@@ -1,3 +1,4 @@
+pub mod Positions
 pub mod One
 pub mod Ends
 pub mod Answers

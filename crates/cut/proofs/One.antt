@@ -9,5 +9,5 @@ use Rattle.cut.proofs.check_cut.Reads as check-cut
 pub no_cut_one : OneResult 0 no-cut-kinds.ps no-cut-kinds.r no_cut.Post
 no_cut_one κs a r r' x x' p q = p ∙ sym q
 
-pub check_cut_one : OneResult 0 check-cut-kinds.ps check-cut-kinds.r check-cut.Post
+pub check_cut_one : OneResult 2 check-cut-kinds.ps check-cut-kinds.r check-cut.Post
 check_cut_one κs a r r' x x' p q = p ∙ sym q

@@ -1,17 +1,16 @@
 // A cut by value, and the checks 7 to 11 on it.
 #![tactic(auto)]
 
-ghost use Rattle.std.specs.Prelude.{◌≡◌, true, ℕ, ◌≤◌};
-ghost use Rattle.base.specs.declared.Check.TheVariants.{Good};
-ghost use Rattle.netlist.specs.Checks.{numbers_good};
-ghost use Rattle.queues.specs.Found.{found, no_queues};
+ghost use Rattle.std.specs.Prelude.{◌≡◌};
+ghost use Rattle.base.specs.Checks.{whole};
 ghost use Rattle.cut.specs.Cuts.{no_cut};
-ghost use Rattle.cut.specs.Checks.{parts_check, queue_checks, checked_by, checked};
+ghost use Rattle.cut.specs.Checks.{settled, checked};
 
 mod entries;
 mod joins;
 
 // What a cut sheet says: a part number for each node, a depth for each queue, label bytes. A cut that was read has zeros past its counts.
+// Arrays with counts beside them, since C sees them and nothing is allocated.
 #[repr(C)]
 #[derive(Clone, Copy)]
 pub struct Cut {
@@ -21,14 +20,6 @@ pub struct Cut {
     pub depth: [u8; 512],
     pub labels: usize,
     pub label: [u8; 4096],
-}
-
-// What the checks give: the answer, its place, and the queues; zeros on a refusal.
-#[derive(Clone, Copy)]
-pub struct CutChecked {
-    pub answer: u32,
-    pub place: usize,
-    pub queues: queues::Queues,
 }
 
 // The cut of zeros, which a refusal gives.
@@ -45,77 +36,29 @@ pub fn no_cut() -> Cut
     }
 }
 
-fn refused(answer: u32, place: usize) -> CutChecked
-    ensures { result ≡ record { answer = answer; place = place; queues = no_queues } }
+// A check that has no entries: its place is 0.
+fn whole(good: bool) -> Option<usize>
+    ensures { result ≡ whole good }
 {
-    let queues = queues::no_queues();
-    CutChecked {
-        answer,
-        place,
-        queues,
-    }
+    if good { None } else { Some(0) }
 }
 
-// The checks 9 to 11, where those before are good.
-fn check_queues(net: netlist::Netlist, cut: Cut) -> CutChecked
-    requires { (numbers_good net ≡ true) × (cut.labels ≤ 4096) × (parts_check net cut ≡ Good) }
-    ensures { result ≡ checked_by (queue_checks net cut) (found net cut.part) }
+// The checks 7 to 11 on a cut of a netlist, 7 of its label bytes alone, and 3 before them; the queues where all are good.
+pub fn check_cut(net: &netlist::Netlist, cut: &Cut) -> Result<queues::Queues, base::Verdict>
+    ensures { result ≡ settled (checked net.now cut.now) }
 {
-    let nodes = net.nodes;
-    let labels = cut.labels;
-    let part = cut.part;
-    let queues = queues::find_queues_in(
-        nodes,
-        net.outputs,
-        &net.code,
-        &net.a,
-        &net.b,
-        &net.c,
-        &net.output,
-        part,
-    );
+    base::passed(3, whole(netlist::numbers_good(net)))?;
+    base::passed(7, whole(cut.labels <= 4096))?;
+    base::passed(8, whole(cut.nodes == net.nodes))?;
+    base::passed(8, entries::check_parts(&cut.part[..net.nodes]))?;
+    let queues = queues::find_queues(net, &cut.part);
     let count = queues.count;
-    if (count <= 512) & (cut.queues == count) {
-        let depths = entries::check_depths(&cut.depth, count);
-        if let base::Check::Bad(place) = depths {
-            return refused(9, place);
-        }
-        let ends = joins::check_joined(&queues.from, &queues.into, count, queues.parts);
-        if let base::Check::Bad(place) = ends {
-            return refused(10, place);
-        }
-        let labelled = entries::check_front(&cut.label, labels, nodes);
-        if let base::Check::Bad(place) = labelled {
-            return refused(11, place);
-        }
-        CutChecked {
-            answer: 0,
-            place: 0,
-            queues,
-        }
-    } else {
-        refused(9, 0)
-    }
-}
-
-// The checks 7 to 11 on a cut of a netlist: 7 of its label bytes alone.
-pub fn check_cut(net: netlist::Netlist, cut: Cut) -> CutChecked
-    ensures { result ≡ checked net cut }
-{
-    let nodes = net.nodes;
-    if netlist::numbers_good(net) {
-        if 4096 < cut.labels {
-            return refused(7, 0);
-        }
-        if cut.nodes != nodes {
-            return refused(8, 0);
-        }
-        let parts = entries::check_parts(&cut.part, nodes);
-        if let base::Check::Bad(place) = parts {
-            return refused(8, place);
-        }
-        check_queues(net, cut)
-    } else {
-        refused(3, 0)
-    }
+    base::passed(9, whole((count <= 512) & (cut.queues == count)))?;
+    base::passed(9, entries::check_depths(&cut.depth[..count]))?;
+    base::passed(10, joins::check_joined(&queues))?;
+    base::passed(
+        11,
+        layout::check_labels(&cut.label[..cut.labels], net.nodes),
+    )?;
+    Ok(queues)
 }

@@ -2,110 +2,59 @@
 use cut::Cut;
 use queues::Queues;
 
-fn wide(x: u8) -> u32 {
-    x as u32
-}
-
-fn wide16(x: u16) -> u32 {
-    x as u32
-}
-
-fn with_bytes(start: u32, cells: &[u8]) -> u32 {
-    let mut sum = start;
-    let mut i = 0;
-    while i < cells.len() {
-        sum = run_text::sum_with(sum, wide(cells[i]));
-        i += 1;
-    }
-    sum
-}
-
-fn with_words(start: u32, cells: &[u16]) -> u32 {
-    let mut sum = start;
-    let mut i = 0;
-    while i < cells.len() {
-        sum = run_text::sum_with(sum, wide16(cells[i]));
-        i += 1;
-    }
-    sum
-}
-
-// Whether every byte from `from` on is 0.
-fn bytes_blank(cells: &[u8], from: usize) -> bool {
-    let mut i = from;
-    while i < cells.len() {
-        if cells[i] != 0 {
-            return false;
-        }
-        i += 1;
-    }
-    true
-}
-
-// Whether every word from `from` on is 0.
-fn words_blank(cells: &[u16], from: usize) -> bool {
-    let mut i = from;
-    while i < cells.len() {
-        if cells[i] != 0 {
-            return false;
-        }
-        i += 1;
-    }
-    true
-}
-
-fn with_cut(start: u32, cut: Cut) -> u32 {
-    let part = with_bytes(start, &cut.part);
-    let depth = with_bytes(part, &cut.depth);
-    with_bytes(depth, &cut.label)
-}
-
-fn with_queues(start: u32, queues: &Queues) -> u32 {
-    let node = with_words(start, &queues.node);
-    let from = with_bytes(node, &queues.from);
-    with_bytes(from, &queues.into)
-}
-
-fn with_maps(start: u32, queues: &Queues) -> u32 {
-    let input = with_words(start, &queues.input);
-    let a = with_words(input, &queues.a);
-    let b = with_words(a, &queues.b);
-    with_words(b, &queues.c)
+// The sum with the numbers of one array more. network_run has it too: in run_text it would be public, and could promise nothing exact, since `Into` names no value.
+fn sum_all<T: Copy + Into<u32>>(start: u32, cells: &[T]) -> u32 {
+    cells
+        .iter()
+        .fold(start, |sum, x| run_text::sum_with(sum, (*x).into()))
 }
 
 // The sum over all arrays, one after the other.
-pub fn sum(cut: Cut, queues: &Queues) -> u32 {
-    with_maps(with_queues(with_cut(0, cut), queues), queues)
+pub fn sum(cut: &Cut, queues: &Queues) -> u32 {
+    let part = sum_all(0, &cut.part);
+    let depth = sum_all(part, &cut.depth);
+    let label = sum_all(depth, &cut.label);
+    let node = sum_all(label, &queues.node);
+    let from = sum_all(node, &queues.from);
+    let into = sum_all(from, &queues.into);
+    let input = sum_all(into, &queues.input);
+    let a = sum_all(input, &queues.a);
+    let b = sum_all(a, &queues.b);
+    sum_all(b, &queues.c)
 }
 
-fn cut_blank(cut: Cut, nodes: usize, count: usize, labels: usize) -> bool {
-    bytes_blank(&cut.part, nodes) & bytes_blank(&cut.depth, count) & bytes_blank(&cut.label, labels)
+// Whether every number from `from` on is 0.
+fn blank_from<T: Copy + Into<u32>>(cells: &[T], from: usize) -> bool {
+    cells.iter().skip(from).all(|x| (*x).into() == 0)
 }
 
-fn queues_blank(queues: &Queues, count: usize) -> bool {
-    words_blank(&queues.node, count)
-        & bytes_blank(&queues.from, count)
-        & bytes_blank(&queues.into, count)
-}
-
-fn maps_blank(queues: &Queues, nodes: usize) -> bool {
-    words_blank(&queues.input, nodes)
-        & words_blank(&queues.a, nodes)
-        & words_blank(&queues.b, nodes)
-        & words_blank(&queues.c, nodes)
+// Whether all that stands past so many nodes, depths, label bytes and queues is 0.
+fn blank_past(
+    cut: &Cut,
+    queues: &Queues,
+    nodes: usize,
+    depths: usize,
+    labels: usize,
+    count: usize,
+) -> bool {
+    blank_from(&cut.part, nodes)
+        & blank_from(&cut.depth, depths)
+        & blank_from(&cut.label, labels)
+        & blank_from(&queues.node, count)
+        & blank_from(&queues.from, count)
+        & blank_from(&queues.into, count)
+        & blank_from(&queues.input, nodes)
+        & blank_from(&queues.a, nodes)
+        & blank_from(&queues.b, nodes)
+        & blank_from(&queues.c, nodes)
 }
 
 // Whether all that stands past the counts is 0.
-pub fn clean(cut: Cut, queues: &Queues) -> bool {
-    let nodes = cut.nodes;
-    let count = cut.queues;
-    let labels = cut.labels;
-    cut_blank(cut, nodes, count, labels)
-        & queues_blank(queues, queues.count)
-        & maps_blank(queues, nodes)
+pub fn clean(cut: &Cut, queues: &Queues) -> bool {
+    blank_past(cut, queues, cut.nodes, cut.queues, cut.labels, queues.count)
 }
 
 // Whether all is 0.
-pub fn blank(cut: Cut, queues: &Queues) -> bool {
-    cut_blank(cut, 0, 0, 0) & queues_blank(queues, 0) & maps_blank(queues, 0)
+pub fn blank(cut: &Cut, queues: &Queues) -> bool {
+    blank_past(cut, queues, 0, 0, 0, 0)
 }

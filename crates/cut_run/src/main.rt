@@ -4,7 +4,7 @@
 // tools/cut_vectors writes the cases and what is to be printed: at most 10,000 lines of at most 48,000 bytes, none of them empty.
 #![tactic(auto)]
 
-ghost use Rattle.std.specs.Prelude.{◌≤◌, IfOk, length};
+ghost use Rattle.std.specs.Prelude.{◌≤◌, length};
 
 mod cells;
 mod change;
@@ -12,7 +12,7 @@ mod names;
 mod run;
 mod show;
 
-use run_text::{find, past, read_full, unhex};
+use run_text::{find, read_line, unhex};
 use std::io;
 use std::io::{Read, Write};
 
@@ -20,92 +20,43 @@ use std::io::{Read, Write};
 fn net_of(hex: &[u8], net: &mut [u8], before: usize) -> usize
     ensures { result ≤ length net.new }
 {
-    if run_text::same(hex, b"=") {
-        return run_text::least(before, net.len());
+    if hex == b"=".as_slice() {
+        before.min(net.len())
+    } else {
+        unhex(hex, net)
     }
-    unhex(hex, net)
 }
 
-// The case of a net sheet, a cut sheet in hexadecimal, changes and nodes.
+// The case of changes, a net sheet, a cut sheet in hexadecimal, and nodes.
 fn run_sheets<W: Write>(
     out: &mut W,
+    changes: &[u8],
     net: &[u8],
     hex: &[u8],
-    changes: &[u8],
     nodes: &[u8],
 ) -> io::Result<()> {
     let mut cut = [0u8; 16384];
     let n = unhex(hex, &mut cut);
-    run::both(out, net, &cut[0..n], changes)?;
-    names::all(out, net, &cut[0..n], nodes)
+    run::both(out, net, &cut[..n], changes)?;
+    names::all(out, net, &cut[..n], nodes)
 }
 
-// The case of a net sheet, changes, and the line from the cut sheet on.
-fn run_cut<W: Write>(out: &mut W, net: &[u8], changes: &[u8], line: &[u8]) -> io::Result<()> {
-    let end = find(line, 0, b' ');
-    run_sheets(out, net, &line[0..end], changes, &line[end..])
-}
-
-// The case of changes, and the line from the net sheet on. Gives the net sheet's length.
-fn run_net<W: Write>(
-    out: &mut W,
-    changes: &[u8],
-    line: &[u8],
-    net: &mut [u8],
-    before: usize,
-) -> io::Result<usize> {
-    let end = find(line, 0, b' ');
-    let next = past(line, end);
-    let n = net_of(&line[0..end], net, before);
-    run_cut(out, &net[0..n], changes, &line[next..])?;
-    Ok(n)
-}
-
-// The case of a line after its name. Gives the net sheet's length.
-fn run_case<W: Write>(
-    out: &mut W,
-    line: &[u8],
-    net: &mut [u8],
-    before: usize,
-) -> io::Result<usize> {
-    let end = find(line, 0, b' ');
-    let next = past(line, end);
-    run_net(out, &line[0..end], &line[next..], net, before)
-}
-
-// The case of a line. Gives the net sheet's length.
+// The case of a line: what it lacks is empty. Gives the net sheet's length.
 fn run_line<W: Write>(
     out: &mut W,
     line: &[u8],
     net: &mut [u8],
     before: usize,
 ) -> io::Result<usize> {
-    let end = find(line, 0, b' ');
-    let next = past(line, end);
-    out.write_all(&line[0..end])?;
+    let mut words = line.splitn(4, |b| *b == b' ');
+    out.write_all(words.next().unwrap_or(b""))?;
     out.write_all(b":")?;
-    let n = run_case(out, &line[next..], net, before)?;
+    let changes = words.next().unwrap_or(b"");
+    let n = net_of(words.next().unwrap_or(b""), net, before);
+    let sheet = words.next().unwrap_or(b"");
+    let end = find(sheet, 0, b' ');
+    run_sheets(out, changes, &net[..n], &sheet[..end], &sheet[end..])?;
     out.write_all(b"\n")?;
-    Ok(n)
-}
-
-// Puts the next line of the input into `line`, without its end, and gives its length: 0 where there is none. An error is the reader's
-// own: the front of the line is lost.
-fn read_line<R: Read>(input: &mut R, line: &mut [u8]) -> io::Result<usize>
-    ensures { IfOk result (λ n. n ≤ length line.new) }
-{
-    let mut n = 0;
-    while n < line.len() {
-        let end = n + 1;
-        let read = read_full(input, &mut line[n..end])?;
-        if read == 0 {
-            return Ok(n);
-        }
-        if line[n] == b'\n' {
-            return Ok(n);
-        }
-        n = end;
-    }
     Ok(n)
 }
 
@@ -117,14 +68,12 @@ fn run_lines<R: Read, W: Write>(
     net: &mut [u8],
 ) -> io::Result<()> {
     let mut n = 0;
-    let mut i = 0usize;
-    while i < 10000 {
+    for _ in 0..10000 {
         let end = read_line(input, line)?;
         if end == 0 {
-            return Ok(());
+            break;
         }
-        n = run_line(out, &line[0..end], net, n)?;
-        i += 1;
+        n = run_line(out, &line[..end], net, n)?;
     }
     Ok(())
 }

@@ -2,43 +2,31 @@
 use cut::Cut;
 use netlist::Netlist;
 use queues::Queues;
-use run_text::{least, put_either, put_image, put_number, put_word};
+use run_text::{put_either, put_image, put_number, put_word};
 use std::io;
 use std::io::Write;
-
-// Writes the cut into the first `room` bytes of the buffer, and prints the answer. Gives the image's length.
-fn attempt<W: Write>(
-    out: &mut W,
-    net: Netlist,
-    cut: Cut,
-    buffer: &mut [u8],
-    room: usize,
-) -> io::Result<usize> {
-    let end = least(room, buffer.len());
-    let w = cut_sheet::write_cut(net, cut, &mut buffer[0..end]);
-    put_number(out, w.answer as u64)?;
-    put_number(out, w.place as u64)?;
-    put_number(out, w.length as u64)?;
-    Ok(w.length)
-}
 
 // Writes the cut into the first `room` bytes of a buffer of A5, and prints what came of it. Gives the image's length.
 fn write<W: Write>(
     out: &mut W,
-    net: Netlist,
-    cut: Cut,
+    net: &Netlist,
+    cut: &Cut,
     room: usize,
     sheet: &[u8],
 ) -> io::Result<usize> {
     let mut buffer = [0xA5u8; 8192];
-    let length = attempt(out, net, cut, &mut buffer, room)?;
-    put_image(out, &buffer, length, sheet)?;
-    Ok(length)
+    let end = room.min(buffer.len());
+    let w = cut_sheet::write_cut(net, cut, &mut buffer[..end]);
+    put_number(out, u64::from(w.answer))?;
+    put_number(out, w.place as u64)?;
+    put_number(out, w.length as u64)?;
+    put_image(out, &buffer, w.length, sheet)?;
+    Ok(w.length)
 }
 
 // Writes the cut into a buffer that is long enough; then into one of just the image's length, which is none where it is refused;
 // then into one a byte shorter.
-fn write_back<W: Write>(out: &mut W, net: Netlist, cut: Cut, sheet: &[u8]) -> io::Result<()> {
+fn write_back<W: Write>(out: &mut W, net: &Netlist, cut: &Cut, sheet: &[u8]) -> io::Result<()> {
     put_word(out, b"write")?;
     let length = write(out, net, cut, 8192, sheet)?;
     put_word(out, b"fit")?;
@@ -51,16 +39,16 @@ fn write_back<W: Write>(out: &mut W, net: Netlist, cut: Cut, sheet: &[u8]) -> io
 }
 
 // Prints the sum over all places of a cut and its queues.
-fn put_sum<W: Write>(out: &mut W, cut: Cut, queues: &Queues) -> io::Result<()> {
+fn put_sum<W: Write>(out: &mut W, cut: &Cut, queues: &Queues) -> io::Result<()> {
     if crate::cells::blank(cut, queues) {
         put_word(out, b"zeros")
     } else {
-        put_number(out, crate::cells::sum(cut, queues) as u64)
+        put_number(out, u64::from(crate::cells::sum(cut, queues)))
     }
 }
 
 // Prints the counts, the sum over all places and whether what stands past the counts is 0; and all, where it is little.
-fn put_read<W: Write>(out: &mut W, cut: Cut, queues: &Queues) -> io::Result<()> {
+fn put_read<W: Write>(out: &mut W, cut: &Cut, queues: &Queues) -> io::Result<()> {
     crate::show::counts(out, cut, queues)?;
     put_sum(out, cut, queues)?;
     put_either(out, crate::cells::clean(cut, queues), b"clean", b"DIRTY")?;
@@ -73,7 +61,7 @@ fn put_read<W: Write>(out: &mut W, cut: Cut, queues: &Queues) -> io::Result<()> 
 // Prints which sheet was read, the answer and its place.
 fn put_answer<W: Write>(out: &mut W, sheet: &[u8], answer: u32, place: usize) -> io::Result<()> {
     put_word(out, sheet)?;
-    put_number(out, answer as u64)?;
+    put_number(out, u64::from(answer))?;
     put_number(out, place as u64)
 }
 
@@ -81,11 +69,12 @@ fn put_answer<W: Write>(out: &mut W, sheet: &[u8], answer: u32, place: usize) ->
 pub fn both<W: Write>(out: &mut W, net: &[u8], cut: &[u8], changes: &[u8]) -> io::Result<()> {
     let n = net_sheet::read_net(net);
     put_answer(out, b"net", n.answer, n.place)?;
-    let c = cut_sheet::read_cut(n.net, cut);
+    let mut c = cut_sheet::read_cut(&n.net, cut);
     put_answer(out, b"cut", c.answer, c.place)?;
-    put_read(out, c.cut, &c.queues)?;
+    put_read(out, &c.cut, &c.queues)?;
     if c.answer == 0 {
-        write_back(out, n.net, crate::change::all(c.cut, changes), cut)?;
+        crate::change::all(&mut c.cut, changes);
+        write_back(out, &n.net, &c.cut, cut)?;
     }
     Ok(())
 }

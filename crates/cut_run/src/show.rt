@@ -1,29 +1,14 @@
 // A cut and its queues, number by number.
 use cut::Cut;
 use queues::Queues;
-use run_text::{least, put_number, put_word};
+use run_text::{put_number, put_word};
 use std::io;
 use std::io::Write;
 
-fn put8<W: Write>(out: &mut W, x: u8) -> io::Result<()> {
-    put_number(out, x as u64)
-}
-
-fn put16<W: Write>(out: &mut W, x: u16) -> io::Result<()> {
-    put_number(out, x as u64)
-}
-
-fn put_size<W: Write>(out: &mut W, x: usize) -> io::Result<()> {
-    put_number(out, x as u64)
-}
-
 // Prints the first n bytes.
 fn put_bytes<W: Write>(out: &mut W, cells: &[u8], n: usize) -> io::Result<()> {
-    let end = least(n, cells.len());
-    let mut i = 0;
-    while i < end {
-        put8(out, cells[i])?;
-        i += 1;
+    for x in cells.iter().take(n) {
+        put_number(out, u64::from(*x))?;
     }
     Ok(())
 }
@@ -41,23 +26,11 @@ fn put_kind<W: Write>(out: &mut W, q: usize, inputs: usize, channels: usize) -> 
 
 // Prints the queues by number: kind, node, the part that puts, the part that takes.
 fn put_queues<W: Write>(out: &mut W, queues: &Queues) -> io::Result<()> {
-    let end = least(queues.count, 512);
-    let mut q = 0;
-    while q < end {
+    for q in 0..queues.count.min(512) {
         put_kind(out, q, queues.inputs, queues.channels)?;
-        put16(out, queues.node[q])?;
-        put8(out, queues.from[q])?;
-        put8(out, queues.into[q])?;
-        q += 1;
-    }
-    Ok(())
-}
-
-// Prints a node and its queue, where it has one.
-fn put_pair<W: Write>(out: &mut W, node: usize, queue: u16) -> io::Result<()> {
-    if queue != 512 {
-        put_size(out, node)?;
-        put16(out, queue)?;
+        put_number(out, u64::from(queues.node[q]))?;
+        put_number(out, u64::from(queues.from[q]))?;
+        put_number(out, u64::from(queues.into[q]))?;
     }
     Ok(())
 }
@@ -65,47 +38,37 @@ fn put_pair<W: Write>(out: &mut W, node: usize, queue: u16) -> io::Result<()> {
 // Prints the nodes among the first n that have a queue, and their queues.
 fn put_map<W: Write>(out: &mut W, word: &[u8], map: &[u16], n: usize) -> io::Result<()> {
     put_word(out, word)?;
-    let end = least(n, map.len());
-    let mut i = 0;
-    while i < end {
-        put_pair(out, i, map[i])?;
-        i += 1;
+    for i in 0..n.min(map.len()) {
+        if map[i] != 512 {
+            put_number(out, i as u64)?;
+            put_number(out, u64::from(map[i]))?;
+        }
     }
     Ok(())
 }
 
-fn put_cut<W: Write>(out: &mut W, cut: Cut) -> io::Result<()> {
-    let nodes = cut.nodes;
-    let queues = cut.queues;
-    put_word(out, b"parts")?;
-    put_bytes(out, &cut.part, nodes)?;
-    put_word(out, b"depths")?;
-    put_bytes(out, &cut.depth, queues)
-}
-
-fn put_maps<W: Write>(out: &mut W, queues: &Queues, nodes: usize) -> io::Result<()> {
-    put_map(out, b"input", &queues.input, nodes)?;
-    put_map(out, b"a", &queues.a, nodes)?;
-    put_map(out, b"b", &queues.b, nodes)?;
-    put_map(out, b"c", &queues.c, nodes)
-}
-
 // Prints the counts.
-pub fn counts<W: Write>(out: &mut W, cut: Cut, queues: &Queues) -> io::Result<()> {
-    put_size(out, cut.nodes)?;
-    put_size(out, cut.queues)?;
-    put_size(out, cut.labels)?;
-    put_size(out, queues.parts)?;
-    put_size(out, queues.count)?;
-    put_size(out, queues.inputs)?;
-    put_size(out, queues.channels)?;
-    put_size(out, queues.outputs)
+pub fn counts<W: Write>(out: &mut W, cut: &Cut, queues: &Queues) -> io::Result<()> {
+    put_number(out, cut.nodes as u64)?;
+    put_number(out, cut.queues as u64)?;
+    put_number(out, cut.labels as u64)?;
+    put_number(out, queues.parts as u64)?;
+    put_number(out, queues.count as u64)?;
+    put_number(out, queues.inputs as u64)?;
+    put_number(out, queues.channels as u64)?;
+    put_number(out, queues.outputs as u64)
 }
 
 // Prints all.
-pub fn whole<W: Write>(out: &mut W, cut: Cut, queues: &Queues) -> io::Result<()> {
-    put_cut(out, cut)?;
+pub fn whole<W: Write>(out: &mut W, cut: &Cut, queues: &Queues) -> io::Result<()> {
+    put_word(out, b"parts")?;
+    put_bytes(out, &cut.part, cut.nodes)?;
+    put_word(out, b"depths")?;
+    put_bytes(out, &cut.depth, cut.queues)?;
     put_word(out, b"queues")?;
     put_queues(out, queues)?;
-    put_maps(out, queues, cut.nodes)
+    put_map(out, b"input", &queues.input, cut.nodes)?;
+    put_map(out, b"a", &queues.a, cut.nodes)?;
+    put_map(out, b"b", &queues.b, cut.nodes)?;
+    put_map(out, b"c", &queues.c, cut.nodes)
 }

@@ -6,8 +6,8 @@ use Rattle.cut_sheet.proofs.read.read_cut.Reads as read-cut
 use Rattle.cut_sheet.proofs.write.write_cut.Kinds as write-cut-kinds
 use Rattle.cut_sheet.proofs.write.write_cut.Reads as write-cut
 
-pub read_cut_one : OneResult 1 read-cut-kinds.ps read-cut-kinds.r read-cut.Post
+pub read_cut_one : OneResult 2 read-cut-kinds.ps read-cut-kinds.r read-cut.Post
 read_cut_one κs a r r' x x' p q = p ∙ sym q
 
-pub write_cut_one : OneOutcome 1 write-cut-kinds.ps write-cut-kinds.r write-cut.Post (λ κs x. x.1.1.0.now)
+pub write_cut_one : OneOutcome 3 write-cut-kinds.ps write-cut-kinds.r write-cut.Post (λ κs x. x.1.1.0.now)
 write_cut_one κs a r r' x x' p q = (p.0 ∙ sym q.0, p.1 ∙ sym q.1)

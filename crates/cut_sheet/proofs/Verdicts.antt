@@ -1,9 +1,12 @@
 -- What the reader and the writer give, from the verdict.
-use mathlib.Core.Path.{◌≡◌, sym, ◌∙◌, ap}
+use mathlib.Core.Path.{◌≡◌, refl, sym, ◌∙◌, ap}
+use mathlib.Core.Bool.{Bool, true, false, cond}
 use mathlib.Core.List.{List, []}
 use Prim.Native.Nat.{ℕ, ◌≤◌, ◌<◌}
-use borrow.Author.Tests.{eq-eqb, ne_eqb, le-leb, lt-leb}
-use lib.Dec.{lit<, lit≤}
+use borrow.Author.Tests.{eqb-true, eqb-false, ne_eqb, le-leb, lt-leb}
+use native.Mathlib.Omega.{arith}
+use lib.Dec.{eqb, lit<, lit≤}
+use Rattle.std.specs.Prelude.{Ok, Err}
 use lib.ListN.{length}
 use Rattle.base.specs.declared.Verdict.{Verdict}
 use Rattle.base.specs.Checks.{verdict, whole, answered, AllGood, Rising}
@@ -12,10 +15,10 @@ use Rattle.base.proofs.Patch.{patch-front}
 use Rattle.base.proofs.Verdicts.{all-good, good-all, verdict-good, verdict-bad, verdict-done, verdict-more, verdict-kept}
 use Rattle.netlist.specs.declared.Netlist.{Netlist}
 use Rattle.queues.specs.Found.{found, no_queues}
+use Rattle.queues.specs.declared.Queues.{Queues}
 use Rattle.cut.specs.declared.Cut.{Cut}
-use Rattle.cut.specs.declared.CutChecked.{CutChecked}
 use Rattle.cut.specs.Cuts.{no_cut}
-use Rattle.cut.specs.Checks.{cut_checks, checked_by, checked}
+use Rattle.cut.specs.Checks.{cut_checks, checked_by, checked, settled}
 use Rattle.cut.proofs.Within.{rising, rising-parts}
 use Rattle.cut_sheet.specs.Image.{cut_image}
 use Rattle.cut_sheet.specs.Reading.{cut_of, read_checks, read_verdict, cut_read}
@@ -37,21 +40,30 @@ pub read-refused : (n : Netlist) (s : List ℕ) (v : Verdict) → read_verdict n
 unfolding cut_read
 read-refused n s v e h = rw (e, ne_eqb v.answer 0 h)
 
--- what the checks give is the verdict, and with 0 the cut's queues
-pub checked-verdict : (n : Netlist) (c : Cut) (r : CutChecked) → r ≡ checked n c → verdict (cut_checks n c) ≡ answered r.answer r.place
-unfolding checked_by
-checked-verdict n c r e = rw e
-
-pub checked-queues : (n : Netlist) (c : Cut) (r : CutChecked) → r ≡ checked n c → r.answer ≡ 0 → r.queues ≡ found n c.part
-unfolding checked_by
-checked-queues n c r e h = rw e (rw (eq-eqb (verdict (cut_checks n c)).answer 0 (ap (λ x. x.answer) (sym e) ∙ h)))
-
 -- a cut that is answered 0 passed them all
 pub cut_good : (n : Netlist) (c : Cut) → (verdict (cut_checks n c)).answer ≡ 0 → AllGood (cut_checks n c)
 cut_good n c e = good-all 3 (cut_checks n c) (lit< tt) (rising n c) e
 
-pub checked-good : (n : Netlist) (c : Cut) (r : CutChecked) → r ≡ checked n c → r.answer ≡ 0 → AllGood (cut_checks n c)
-checked-good n c r e h = cut_good n c (ap (λ v. v.answer) (checked-verdict n c r e) ∙ h)
+-- what the checks give, refused or not
+bad_on : (v w : Verdict) (q : Queues) (b : Bool) → eqb v.answer 0 ≡ b → Err w ≡ cond b (Ok q) (Err v) → (v ≡ w) × (w.answer ≡ 0 → ⊥)
+bad_on v w q true e h = let z : ◌≡◌ {A = ℕ} 0 1 = cc in let y : ⊥ = omega arith in absurd y
+bad_on v w q false e h =
+    let same : w ≡ v = cc in
+    (sym same, λ z. eqb-false v.answer 0 e (ap (λ x. x.answer) (sym same) ∙ z))
+
+pub checked-bad : (n : Netlist) (c : Cut) (v : Verdict) → Err v ≡ settled (checked n c) → (verdict (cut_checks n c) ≡ v) × (v.answer ≡ 0 → ⊥)
+unfolding checked_by
+checked-bad n c v h = bad_on (verdict (cut_checks n c)) v _ (eqb (verdict (cut_checks n c)).answer 0) refl h
+
+good_on : (v : Verdict) (q f r : Queues) (b : Bool) → eqb v.answer 0 ≡ b → Ok q ≡ cond b (Ok (cond b f r)) (Err v) → (q ≡ f) × (v.answer ≡ 0)
+good_on v q f r true e h = (cc, eqb-true v.answer 0 e)
+good_on v q f r false e h = let z : ◌≡◌ {A = ℕ} 0 1 = cc in let y : ⊥ = omega arith in absurd y
+
+pub checked-good : (n : Netlist) (c : Cut) (q : Queues) → Ok q ≡ settled (checked n c) → (q ≡ found n c.part) × AllGood (cut_checks n c)
+unfolding checked_by
+checked-good n c q h =
+    let g = good_on (verdict (cut_checks n c)) q (found n c.part) no_queues (eqb (verdict (cut_checks n c)).answer 0) refl h in
+    (g.0, cut_good n c g.1)
 
 -- the writer's answers: refused by the cut, refused for want of room, done
 pub write_kept : (n : Netlist) (c : Cut) (room : ℕ) (v : Verdict) → verdict (cut_checks n c) ≡ v → (v.answer ≡ 0 → ⊥) → write_verdict n c room ≡ v

@@ -1,7 +1,7 @@
 -- What a cut sheet says, and the checks 7 to 11 on it (outline, "The cut sheet" and "Numbers given back").
 use Rattle.std.specs.Prelude.{Bool, cond, ◌&&◌, List, ◌∷◌, ℕ, ◌+◌, eqb, leb, length, get_or, replicate}
 use Rattle.base.specs.Lists.{fill}
-use Rattle.base.specs.declared.Check.{Check}
+use Rattle.std.specs.Prelude.{Option}
 use Rattle.base.specs.declared.Verdict.{Verdict}
 use Rattle.base.specs.Checks.{whole, verdict}
 use Rattle.layout.specs.Trailer.{trailer_good, front_bytes, middle_bytes, label_bytes}
@@ -34,7 +34,7 @@ cut_of s = cut_from s (front_bytes s) (middle_bytes s) (label_bytes s)
 abbrev pub frame_good : List ℕ → Bool
 frame_good s = leb 16 (length s) && trailer_good cut_letter s && labels_few (label_bytes s)
 
-abbrev pub read_checks : Netlist → List ℕ → List (ℕ × Check)
+abbrev pub read_checks : Netlist → List ℕ → List (ℕ × Option ℕ)
 read_checks n s = (3, whole (numbers_good n)) ∷ (7, whole (frame_good s)) ∷ part_checks n (cut_of s)
 
 abbrev pub read_verdict : Netlist → List ℕ → Verdict

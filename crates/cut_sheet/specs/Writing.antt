@@ -1,6 +1,6 @@
 -- What the cut sheet's writer gives (outline, "Numbers given back": writers check by 7's label bytes and 8 to 11, then 16).
 use Rattle.std.specs.Prelude.{cond, List, [], ◌∷◌, ◌++◌, ℕ, eqb, leb, length, drop}
-use Rattle.base.specs.declared.Check.{Check}
+use Rattle.std.specs.Prelude.{Option}
 use Rattle.base.specs.declared.Verdict.{Verdict}
 use Rattle.base.specs.Checks.{whole, verdict}
 use Rattle.layout.specs.declared.write.Wrote.{Wrote}
@@ -10,7 +10,7 @@ use Rattle.cut.specs.Checks.{cut_checks}
 use Rattle.cut_sheet.specs.Image.{cut_image}
 
 -- the checks for a lent image of so many bytes; 16: the sheet has room
-abbrev pub write_checks : Netlist → Cut → ℕ → List (ℕ × Check)
+abbrev pub write_checks : Netlist → Cut → ℕ → List (ℕ × Option ℕ)
 write_checks n c room = cut_checks n c ++ ((16, whole (leb (length (cut_image c)) room)) ∷ [])
 
 abbrev pub write_verdict : Netlist → Cut → ℕ → Verdict

@@ -1,38 +1,29 @@
 // The writer: any netlist and cut in; answer, place and length out, and the sheet in a lent image.
-ghost use Rattle.std.specs.Prelude.{◌≡◌, ℕ, ◌+◌, ◌≤◌, length, take};
+ghost use Rattle.std.specs.Prelude.{◌≡◌, ◌+◌, ◌≤◌, length};
 ghost use Rattle.base.specs.Lists.{patch};
 ghost use Rattle.cut_sheet.specs.Image.{cut_image};
 ghost use Rattle.cut_sheet.specs.Writing.{cut_wrote, cut_written};
 
-// Puts the first n of some bytes, from byte `at` on.
-fn put_front(image: &mut [u8], at: usize, bytes: &[u8], n: usize)
-    requires { (n ≤ length bytes.now) × (at + n ≤ length image.old) }
-    ensures { image.new ≡ patch image.old at (take n bytes.now) }
-{
-    layout::put_bytes(image, at, &bytes[..n]);
-}
-
 // Puts the whole sheet, from byte 0 on.
-fn put_cut(image: &mut [u8], cut: cut::Cut)
-    requires { (cut.nodes ≤ 1024) × (cut.queues ≤ 512) × (cut.labels ≤ 4096) × (cut.nodes + cut.queues + cut.labels + 16 ≤ length image.old) }
-    ensures { image.new ≡ patch image.old 0 (cut_image cut) }
+fn put_cut(image: &mut [u8], cut: &cut::Cut)
+    requires { (cut.now.nodes ≤ 1024) × (cut.now.queues ≤ 512) × (cut.now.labels ≤ 4096) × (cut.now.nodes + cut.now.queues + cut.now.labels + 16 ≤ length image.old) }
+    ensures { image.new ≡ patch image.old 0 (cut_image cut.now) }
 {
     let nodes = cut.nodes;
     let queues = cut.queues;
     let labels = cut.labels;
-    put_front(image, 0, &cut.part, nodes);
-    put_front(image, nodes, &cut.depth, queues);
-    put_front(image, nodes + queues, &cut.label, labels);
+    layout::put_bytes(image, 0, &cut.part[..nodes]);
+    layout::put_bytes(image, nodes, &cut.depth[..queues]);
+    layout::put_bytes(image, nodes + queues, &cut.label[..labels]);
     let trailer = layout::trailer_bytes(nodes as u32, queues as u32, labels as u32, 0x43);
     layout::put_bytes(image, nodes + queues + labels, &trailer);
 }
 
 // Writes a cut sheet for a netlist: the checks 7 to 11, then 16.
-pub fn write_cut(net: netlist::Netlist, cut: cut::Cut, image: &mut [u8]) -> layout::Wrote
-    ensures { (result ≡ cut_wrote net cut (length image.old)) × (image.new ≡ cut_written net cut image.old) }
+pub fn write_cut(net: &netlist::Netlist, cut: &cut::Cut, image: &mut [u8]) -> layout::Wrote
+    ensures { (result ≡ cut_wrote net.now cut.now (length image.old)) × (image.new ≡ cut_written net.now cut.now image.old) }
 {
-    let v = cut::check_cut(net, cut);
-    if v.answer != 0 {
+    if let Err(v) = cut::check_cut(net, cut) {
         return layout::Wrote {
             answer: v.answer,
             place: v.place,

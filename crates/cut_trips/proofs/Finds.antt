@@ -10,8 +10,8 @@ use borrow.Author.Tests.{eqb-true, eq-eqb, leb-true, le-leb}
 use lib.Dec.{eqb, leb}
 use lib.ListN.{length}
 use Rattle.base.specs.Checks.{whole, lowest, Lowest}
-use Rattle.base.specs.declared.Check.{Check}
-use Rattle.base.specs.declared.Check.TheVariants.{Bad}
+use Rattle.std.specs.Prelude.{Option}
+use Rattle.std.specs.Prelude.{Some}
 use Rattle.base.proofs.First.{lowest-bad}
 use Rattle.base.proofs.Tests.{and_left, and_right, and_true}
 use Rattle.layout.proofs.Meaning.{label-bad}
@@ -27,9 +27,9 @@ wrong : {A : Type 0} → true ≡ false → A
 wrong e = let z : ◌≡◌ {A = ℕ} 0 1 = cc in let y : ⊥ = omega arith in absurd y
 
 -- a count that decides P, and entries behind it
-counted : {P L : Type 0} (b : Bool) (d : Check) (p : ℕ) → (b ≡ true → P) → (P → b ≡ true) → (d ≡ Bad p) ↔ L → (and_then (whole b) d ≡ Bad p) ↔ (((P → ⊥) × (p ≡ 0)) ⊎ (P × L))
+counted : {P L : Type 0} (b : Bool) (d : Option ℕ) (p : ℕ) → (b ≡ true → P) → (P → b ≡ true) → (d ≡ Some p) ↔ L → (and_then (whole b) d ≡ Some p) ↔ (((P → ⊥) × (p ≡ 0)) ⊎ (P × L))
 counted true d p to back s = (λ e. inr (to refl, s.0 e), λ h. ⊎_elim (λ a. absurd (a.0 (to refl))) (λ a. s.1 a.1) h)
-counted false d p to back s = (λ e. inl (λ x. wrong (sym (back x)), cc), λ h. ⊎_elim (λ a. ap Bad (sym a.1)) (λ a. wrong (sym (back a.0))) h)
+counted false d p to back s = (λ e. inl (λ x. wrong (sym (back x)), cc), λ h. ⊎_elim (λ a. ap Some (sym a.1)) (λ a. wrong (sym (back a.0))) h)
 
 -- some entry passes the test, or none does
 some_on : (n : ℕ) (t : ℕ → Bool) (b : Bool) → t n ≡ b → (b || some n t) ≡ true → (some n t ≡ true → (k : ℕ) × (k < n) × (t k ≡ true)) → (k : ℕ) × (k < suc n) × (t k ≡ true)

@@ -6,8 +6,8 @@ use Rattle.cut_trips.proofs.copy_cut.Reads as copy-cut
 use Rattle.cut_trips.proofs.reread_cut.Kinds as reread-cut-kinds
 use Rattle.cut_trips.proofs.reread_cut.Reads as reread-cut
 
-pub copy_cut_one : OneOutcome 2 copy-cut-kinds.ps copy-cut-kinds.r copy-cut.Post (λ κs x. x.1.1.0.now)
+pub copy_cut_one : OneOutcome 3 copy-cut-kinds.ps copy-cut-kinds.r copy-cut.Post (λ κs x. x.1.1.0.now)
 copy_cut_one κs a r r' x x' p q = (p.0 ∙ sym q.0, p.1 ∙ sym q.1)
 
-pub reread_cut_one : OneOutcome 1 reread-cut-kinds.ps reread-cut-kinds.r reread-cut.Post (λ κs x. x.1.1.0.now)
+pub reread_cut_one : OneOutcome 3 reread-cut-kinds.ps reread-cut-kinds.r reread-cut.Post (λ κs x. x.1.1.0.now)
 reread_cut_one κs a r r' x x' p q = (p.0 ∙ sym q.0, p.1 ∙ sym q.1)

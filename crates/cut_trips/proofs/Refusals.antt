@@ -9,7 +9,7 @@ use borrow.Author.Tests.{leb-false, lt-leb}
 use lib.Dec.{leb, lit<, lit≤}
 use lib.ListN.{length}
 use Rattle.base.specs.Checks.{answered, whole, Rising}
-use Rattle.base.specs.declared.Check.TheVariants.{Bad}
+use Rattle.std.specs.Prelude.{Some}
 use Rattle.base.proofs.Exact.{exact}
 use Rattle.base.proofs.Verdicts.{whole-good, whole-bad}
 use Rattle.layout.specs.Trailer.{trailer_good, label_bytes}
@@ -44,7 +44,7 @@ unfolding cut_wrote
 write_answers n c room = refl
 
 -- a first check of a whole that is good does not answer
-not_first : (b : Bool) (p : ℕ) → b ≡ true → whole b ≡ Bad p → ⊥
+not_first : (b : Bool) (p : ℕ) → b ≡ true → whole b ≡ Some p → ⊥
 not_first b p t e =
     let f = ((whole-bad b p).0 e).0 in
     let z : ◌≡◌ {A = ℕ} 0 1 = cc in

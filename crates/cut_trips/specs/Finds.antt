@@ -1,7 +1,7 @@
 -- What the checks 8 to 11 find on a cut, in the words of the outline's table.
 use Rattle.std.specs.Prelude.{◌≡◌, ◌⊎◌, ◌↔◌, ℕ, ◌<◌, ◌≤◌, leb, length}
 use Rattle.base.specs.Checks.{found_by, Lowest}
-use Rattle.base.specs.declared.Check.TheVariants.{Bad}
+use Rattle.std.specs.Prelude.{Some}
 use Rattle.layout.specs.Labels.{BadEntry}
 use Rattle.netlist.specs.declared.Netlist.{Netlist}
 use Rattle.queues.specs.Queues.{part_of, parts_of, queue_at}
@@ -28,10 +28,10 @@ pub record LowestAlone (n : Netlist) (c : Cut) (p : ℕ) : Type 0 where
 
 -- Of the two causes of 8, and of those of 9, the one with place 0 goes first.
 pub record CutFinds (n : Netlist) (c : Cut) (p : ℕ) : Type 0 where
-  pub parts : (found_by (part_checks n c) 0 ≡ Bad p) ↔ (((PartsCounted n c → ⊥) × (p ≡ 0)) ⊎ (PartsCounted n c × Lowest (λ i. leb (part_of c.part i) 31) n.nodes p))
-  pub depths : (found_by (part_checks n c) 1 ≡ Bad p) ↔ (((QueuesCounted n c → ⊥) × (p ≡ 0)) ⊎ (QueuesCounted n c × Lowest (λ q. depth_good (depth_of c q)) (length (cut_queues n c)) p))
-  pub joined : (found_by (part_checks n c) 2 ≡ Bad p) ↔ LowestAlone n c p
-  pub labels : (found_by (part_checks n c) 3 ≡ Bad p) ↔ BadEntry n.nodes (cut_labels c) p
+  pub parts : (found_by (part_checks n c) 0 ≡ Some p) ↔ (((PartsCounted n c → ⊥) × (p ≡ 0)) ⊎ (PartsCounted n c × Lowest (λ i. leb (part_of c.part i) 31) n.nodes p))
+  pub depths : (found_by (part_checks n c) 1 ≡ Some p) ↔ (((QueuesCounted n c → ⊥) × (p ≡ 0)) ⊎ (QueuesCounted n c × Lowest (λ q. depth_good (depth_of c q)) (length (cut_queues n c)) p))
+  pub joined : (found_by (part_checks n c) 2 ≡ Some p) ↔ LowestAlone n c p
+  pub labels : (found_by (part_checks n c) 3 ≡ Some p) ↔ BadEntry n.nodes (cut_labels c) p
 
 abbrev pub CutMeans : Type 0
 CutMeans = (n : Netlist) (c : Cut) (p : ℕ) → CutFinds n c p

@@ -1,7 +1,7 @@
 -- The refusals of the cut sheet's reader and writer, exactly.
 use Rattle.std.specs.Prelude.{◌≡◌, false, ◌⊎◌, ◌↔◌, List, ℕ, ◌<◌, length}
 use Rattle.base.specs.Checks.{answered, found_by, AllGood, ExactAt}
-use Rattle.base.specs.declared.Check.TheVariants.{Bad}
+use Rattle.std.specs.Prelude.{Some}
 use Rattle.layout.specs.Trailer.{trailer_good, label_bytes}
 use Rattle.netlist.specs.declared.Netlist.{Netlist}
 use Rattle.netlist.specs.Checks.{net_checks}
@@ -36,12 +36,12 @@ NeverThree =
 abbrev pub FrameMeans : Type 0
 FrameMeans =
     (n : Netlist) (s : List ℕ) (p : ℕ)
-    → (found_by (read_checks n s) 1 ≡ Bad p) ↔ (((length s < 16) ⊎ ((trailer_good cut_letter s ≡ false) ⊎ (4096 < label_bytes s))) × (p ≡ 0))
+    → (found_by (read_checks n s) 1 ≡ Some p) ↔ (((length s < 16) ⊎ ((trailer_good cut_letter s ≡ false) ⊎ (4096 < label_bytes s))) × (p ≡ 0))
 
 -- and what the writer's 7 and 16 find
 pub record WriteFinds (n : Netlist) (c : Cut) (room p : ℕ) : Type 0 where
-  pub labels : (found_by (write_checks n c room) 1 ≡ Bad p) ↔ ((4096 < c.labels) × (p ≡ 0))
-  pub short : (found_by (write_checks n c room) 6 ≡ Bad p) ↔ ((room < length (cut_image c)) × (p ≡ 0))
+  pub labels : (found_by (write_checks n c room) 1 ≡ Some p) ↔ ((4096 < c.labels) × (p ≡ 0))
+  pub short : (found_by (write_checks n c room) 6 ≡ Some p) ↔ ((room < length (cut_image c)) × (p ≡ 0))
 
 abbrev pub WriteMeans : Type 0
 WriteMeans = (n : Netlist) (c : Cut) (room p : ℕ) → WriteFinds n c room p

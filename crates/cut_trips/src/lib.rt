@@ -6,13 +6,12 @@ ghost use Rattle.cut_trips.specs.Again.{copied, copied_into, reread};
 ghost use Rattle.cut_sheet.specs.Writing.{cut_written};
 
 // Reads a sheet and writes what was read.
-pub fn copy_cut(net: netlist::Netlist, sheet: &[u8], image: &mut [u8]) -> layout::Wrote
-    ensures { (result ≡ copied net sheet.now (length image.old)) × (image.new ≡ copied_into net sheet.now image.old) }
+pub fn copy_cut(net: &netlist::Netlist, sheet: &[u8], image: &mut [u8]) -> layout::Wrote
+    ensures { (result ≡ copied net.now sheet.now (length image.old)) × (image.new ≡ copied_into net.now sheet.now image.old) }
 {
     let got = cut_sheet::read_cut(net, sheet);
-    let cut = got.cut;
     if got.answer == 0 {
-        cut_sheet::write_cut(net, cut, image)
+        cut_sheet::write_cut(net, &got.cut, image)
     } else {
         layout::Wrote {
             answer: got.answer,
@@ -23,21 +22,20 @@ pub fn copy_cut(net: netlist::Netlist, sheet: &[u8], image: &mut [u8]) -> layout
 }
 
 // Writes a cut and reads what was written.
-pub fn reread_cut(net: netlist::Netlist, cut: cut::Cut, image: &mut [u8]) -> cut_sheet::CutRead
-    ensures { (result ≡ reread net cut (length image.old)) × (image.new ≡ cut_written net cut image.old) }
+pub fn reread_cut(net: &netlist::Netlist, cut: &cut::Cut, image: &mut [u8]) -> cut_sheet::CutRead
+    ensures { (result ≡ reread net.now cut.now (length image.old)) × (image.new ≡ cut_written net.now cut.now image.old) }
 {
+    // That a byte is one: what is read of the cut here is known to be of its type behind the reference too.
+    prove!(cut.part[0] <= 255);
     let wrote = cut_sheet::write_cut(net, cut, image);
-    let n = wrote.length;
     if wrote.answer == 0 {
-        cut_sheet::read_cut(net, &image[0..n])
+        cut_sheet::read_cut(net, &image[..wrote.length])
     } else {
-        let none = cut::no_cut();
-        let queues = queues::no_queues();
         cut_sheet::CutRead {
             answer: wrote.answer,
             place: wrote.place,
-            cut: none,
-            queues,
+            cut: cut::no_cut(),
+            queues: queues::no_queues(),
         }
     }
 }

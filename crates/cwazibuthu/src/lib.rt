@@ -1,5 +1,5 @@
 // The library for the boards' hosts: the nineteen calls, exported with C linkage. Each is one call of a library crate, under that crate's clauses; a static
-// library exports the functions of its own crate alone, and no other crate can stand on it.
+// library exports the functions of its own crate alone, and no other crate can stand on it. Answers are numbers, since C reads them.
 #![tactic(auto)]
 
 ghost use Rattle.std.specs.Prelude.{◌≡◌, length};

@@ -9,7 +9,9 @@ use native.Mathlib.Numerals.{add-one}
 use native.Mathlib.Omega.{arith}
 use borrow.Author.Tests.{eqb-true, eqb-false, eq-eqb}
 use lib.Dec.{eqb}
-use lib.ListN.{length, get_or, set, length-set}
+use mir.Val.{bool_byte}
+use Rattle.std.proofs.lemmas.List.{get_or-take}
+use lib.ListN.{length, take, get_or, set, length-set}
 use lib.Seq.{get_or-set_same, get_or-set_other}
 use Rattle.base.specs.Checks.{every}
 use Rattle.cycles.specs.Inputs.{ins_in, fits_in, all_fit_in}
@@ -26,6 +28,11 @@ found-ins code (suc n) = rw (found-ins code n)
 small : (b : Bool) → cond b 1 0 ≤ 1
 small true = omega arith
 small false = omega arith
+
+-- a test as a number
+pub byte_is : (b : Bool) → bool_byte b ≡ cond b 1 0
+byte_is true = refl
+byte_is false = refl
 
 module _ (kind : ℕ) (code : List ℕ) where
   pub found_none : 0 ≡ found_in kind code 0
@@ -74,6 +81,10 @@ module _ (kind : ℕ) (code : List ℕ) where
             (eq-or-lt_of_le (le_of_suc-le-suc (rw (← add-one i) h)));
       }
 
+  -- as many as there are, from the list's front
+  pub listed_take : (n m : ℕ) (list : List ℕ) → m ≡ found_in kind code n → Listed kind code n list → Listed kind code n (take m list)
+  listed_take n m list q l = record { placed = λ i h e. get_or-take m list (found_in kind code i) 0 (rw q (found_at n i h e)) ∙ l.placed i h e }
+
   -- and of fewer nodes
   pub listed_less : (n : ℕ) (list : List ℕ) → Listed kind code (suc n) list → Listed kind code n list
   listed_less n list l = record { placed = λ i h. l.placed i (omega arith) }
@@ -87,9 +98,6 @@ puts_none list f xs = refl
 pub puts-step : (list : List ℕ) (f : ℕ → ℕ) (j p v : ℕ) (xs l : List ℕ) → l ≡ puts list f j xs → p ≡ inside (get_or list j 0) → v ≡ f j → set l p v ≡ puts list f (j + 1) xs
 unfolding puts
 puts-step list f j p v xs l e h q = rw (add-one j, e, h, q)
-
-pub puts-end : (list : List ℕ) (f : ℕ → ℕ) (j m : ℕ) (xs l : List ℕ) → l ≡ puts list f j xs → j ≡ m → l ≡ puts list f m xs
-puts-end list f j m xs l e h = rw (← h) e
 
 pub puts-length : (list : List ℕ) (f : ℕ → ℕ) (m : ℕ) (xs : List ℕ) → length (puts list f m xs) ≡ length xs
 unfolding puts

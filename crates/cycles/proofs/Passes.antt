@@ -19,9 +19,6 @@ pub computed-step : (F : Fields) (i x : ℕ) (vals l : List ℕ) → l ≡ compu
 unfolding computed
 computed-step F i x vals l e q = rw (add-one i, q, e)
 
-pub computed-end : (F : Fields) (i n : ℕ) (vals l : List ℕ) → l ≡ computed F i vals → i ≡ n → l ≡ computed F n vals
-computed-end F i n vals l e h = rw (← h) e
-
 pub evals-length : (F : Fields) (regs ins : List ℕ) (m n : ℕ) (vals : List ℕ) → length (evals F regs ins m n vals) ≡ length vals
 unfolding evals
 evals-length F regs ins m zero vals = refl
@@ -63,8 +60,3 @@ from-none m f xs = refl
 pub from_step : (m : ℕ) (f : ℕ → ℕ) (i v : ℕ) (xs l : List ℕ) → l ≡ fill_from m f i xs → v ≡ f i → set l (m + i) v ≡ fill_from m f (i + 1) xs
 unfolding fill_from
 from_step m f i v xs l e h = rw (add-one i, e, h)
-
-pub from-length : (m : ℕ) (f : ℕ → ℕ) (n : ℕ) (xs : List ℕ) → length (fill_from m f n xs) ≡ length xs
-unfolding fill_from
-from-length m f zero xs = refl
-from-length m f (suc n) xs = simp length-set (from-length m f n xs)

@@ -188,8 +188,3 @@ promised_turn n regs ins cycles outs t old vals done put next more list held bef
           ∙ ap (λ l. fill_from (t * n.outputs) (λ j. get_or (passed n g w regs rg v ins cycles t runs on vals long) (inside (output_of n j)) 0) n.outputs l) b.1
           ∙ outputs_change n g w regs rg v ins cycles t runs on vals long outs,
     )
-
-pub promised_end : (n : Netlist) (regs ins : List ℕ) (cycles : ℕ) (outs : List ℕ) (t : ℕ) (regs' outs' : List ℕ) → t ≡ cycles → Promised n regs ins cycles outs t regs' outs' → Promised n regs ins cycles outs cycles regs' outs'
-promised_end n regs ins cycles outs t regs' outs' e before g rg v runs =
-    let b = before g rg v runs in
-    (b.0 ∙ ap (λ k. registers_after n regs v k) e, b.1 ∙ ap (λ k. outputs_after n v outs k) e)

@@ -1,6 +1,6 @@
 -- The plain stepper (outline, "A cycle" and "Numbers given back"): what it answers, and what its cycles leave in the registers and the outputs.
 use Rattle.std.specs.Prelude.{◌≡◌, Bool, true, false, cond, List, [], ◌∷◌, ℕ, zero, suc, ◌+◌, ◌*◌, ◌<◌, ◌^◌, eqb, leb, length, get_or, replicate}
-use Rattle.base.specs.declared.Check.{Check}
+use Rattle.std.specs.Prelude.{Option}
 use Rattle.base.specs.Checks.{every, whole, verdict, AllGood}
 use Rattle.base.specs.Lists.{fill}
 use Rattle.netlist.specs.declared.Netlist.{Netlist}
@@ -28,6 +28,10 @@ net_in nodes code width a b c k outputs output =
       labels = 0;
       label = [];
     }
+
+-- a netlist without its labels
+abbrev pub unlabelled : Netlist → Netlist
+unlabelled n = net_in n.nodes n.code n.width n.a n.b n.c n.k n.outputs n.output
 
 -- node i is a register
 abbrev pub register_at : Netlist → ℕ → Bool
@@ -80,7 +84,7 @@ outputs_after n v outs (suc t) = fill_from (t * n.outputs) (λ j. v (suc t) (out
 
 -- ---- the answer, before the first cycle: 12, not one value for each IN; 13, a value not below 2^w; 16, the lent list too short
 
-abbrev pub step_checks : Netlist → ℕ → List ℕ → ℕ → List (ℕ × Check)
+abbrev pub step_checks : Netlist → ℕ → List ℕ → ℕ → List (ℕ × Option ℕ)
 step_checks n cycles ins room =
     (12, whole (eqb (length ins) (cycles * ins_of n)))
     ∷ (13, whole (every (λ t. all_fit_in n.code n.width ins (t * ins_of n) n.nodes) cycles))

@@ -1,9 +1,9 @@
-// The cycles layer's code: the plain stepper on lent arrays.
+// The cycles layer's code: the plain stepper.
 #![tactic(auto)]
 
+mod calls;
 mod cycle;
 mod inputs;
 mod nodes;
-mod step;
 
-pub use step::{first_registers_in, step_in, steps_in};
+pub use calls::{first_registers, step, steps};

@@ -9,7 +9,7 @@ use Rattle.nets.specs.Rounds.{in_order, run}
 use Rattle.nets.proofs.Rounds.{rounds, play_append, run_plays}
 use Rattle.nets.proofs.Orders.{order_plays}
 use Rattle.plans.specs.declared.Plan.{Plan}
-use Rattle.spots.specs.declared.Network.{Network}
+use Rattle.lanes.specs.declared.Network.{Network}
 use Rattle.spots.specs.Stores.{store_of, Given, net_of}
 use Rattle.moves.proofs.Asking.{again}
 use Rattle.moves.proofs.Feeding.{feed_means}

@@ -22,7 +22,7 @@ use Rattle.nets.proofs.Calls.{answers_right}
 use Rattle.nets.proofs.Ready.{puts, put-ready, finishes, finish-ready}
 use Rattle.nets.proofs.Needs.{needs_are}
 use Rattle.plans.specs.declared.Plan.{Plan}
-use Rattle.spots.specs.declared.Network.{Network}
+use Rattle.lanes.specs.declared.Network.{Network}
 use Rattle.spots.specs.Stores.{Given, net_of}
 use Rattle.moves.specs.Moves.{feed_checked, drain_checked}
 use Rattle.moves.specs.Meaning.{feed_entry, drain_entry, fire_entry}

@@ -8,7 +8,7 @@ use Rattle.nets.specs.Actions.{Action, feed, drain, put, finish, ready, step, pl
 use Rattle.nets.specs.Rounds.{in_order, after_round, run}
 use Rattle.nets.specs.Orders.{Entry, asked, order}
 use Rattle.plans.specs.declared.Plan.{Plan}
-use Rattle.spots.specs.declared.Network.{Network}
+use Rattle.lanes.specs.declared.Network.{Network}
 use Rattle.spots.specs.Stores.{store_of}
 use Rattle.spots.specs.Rounds.{round_on}
 use Rattle.moves.specs.Moves.{feed_left, drain_left}

@@ -9,7 +9,7 @@ use Rattle.nets.specs.Actions.{put, finish, ready}
 use Rattle.nets.specs.Rounds.{rule_count, rule}
 use Rattle.nets.specs.Orders.{Entry, output_queue}
 use Rattle.plans.specs.declared.Plan.{Plan}
-use Rattle.spots.specs.declared.Network.{Network}
+use Rattle.lanes.specs.declared.Network.{Network}
 use Rattle.spots.specs.Stores.{Given, net_of}
 use Rattle.moves.specs.Meaning.{feed_entry, drain_entry, fire_entry, answer_of, state_after}
 

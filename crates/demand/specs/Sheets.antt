@@ -3,7 +3,7 @@
 use Rattle.std.specs.Prelude.{◌≡◌, List, ℕ}
 use Rattle.net_sheet.specs.Reading.{net_of as sheetNet}
 use Rattle.plans.specs.declared.Plan.{Plan}
-use Rattle.spots.specs.declared.Network.{Network}
+use Rattle.lanes.specs.declared.Network.{Network}
 use Rattle.spots.specs.Stores.{Given, net_of}
 use Rattle.opens.specs.Opening.{opened}
 use Rattle.opens.specs.Meaning.{net_for}

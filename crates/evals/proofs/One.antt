@@ -1,16 +1,14 @@
--- Each promise determines what it leaves in the lent arrays: stated of the contracts as the source has them.
-use mathlib.Core.Path.{refl, sym, ◌∙◌}
-use mathlib.Core.Bool.{Bool}
-use mathlib.Core.List.{List}
-use Prim.Native.Nat.{ℕ}
+-- Each promise determines what it leaves of what was found: stated of the contracts as the source has them.
+use Rattle.std.proofs.Common.{refl, sym, ◌∙◌}
 use Rattle.base.specs.Promises.{OneOutcome}
-use Rattle.evals.proofs.evaluate.Kinds as evaluate-kinds
-use Rattle.evals.proofs.evaluate.Reads as evaluate
-use Rattle.evals.proofs.load_tokens.Kinds as load-tokens-kinds
-use Rattle.evals.proofs.load_tokens.Reads as load-tokens
+use Rattle.evals.specs.declared.Found.{Found}
+use Rattle.evals.proofs.Found.evaluate.Kinds as evaluate-kinds
+use Rattle.evals.proofs.Found.evaluate.Reads as evaluate
+use Rattle.evals.proofs.Found.load.Kinds as load-kinds
+use Rattle.evals.proofs.Found.load.Reads as load
 
-pub evaluate_one : OneOutcome {A = List ℕ × List Bool} 4 evaluate-kinds.ps evaluate-kinds.r evaluate.Post (λ κs x. (x.1.1.1.1.1.1.1.1.1.1.0.now, x.1.1.1.1.1.1.1.1.1.1.1.0.now))
-evaluate_one κs a r r' x x' p q = (refl, λ i. ((p.0 ∙ sym q.0) i, (p.1 ∙ sym q.1) i))
+pub evaluate_one : OneOutcome {A = Found} 3 evaluate-kinds.ps evaluate-kinds.r evaluate.Post (λ κs x. x.0.now)
+evaluate_one κs a r r' x x' p q = (refl, λ i. record { vals = (p.0 ∙ sym q.0) i; mets = (p.1 ∙ sym q.1) i })
 
-pub load-tokens-one : OneOutcome {A = List ℕ × List Bool} 3 load-tokens-kinds.ps load-tokens-kinds.r load-tokens.Post (λ κs x. (x.1.1.1.0.now, x.1.1.1.1.0.now))
-load-tokens-one κs a r r' x x' p q = (refl, λ i. ((p.0 ∙ sym q.0) i, (p.1 ∙ sym q.1) i))
+pub load-one : OneOutcome {A = Found} 2 load-kinds.ps load-kinds.r load.Post (λ κs x. x.0.now)
+load-one κs a r r' x x' p q = (refl, λ i. record { vals = (p.0 ∙ sym q.0) i; mets = (p.1 ∙ sym q.1) i })

@@ -1,113 +1,86 @@
 // The nodes of a network evaluated in one pass, each once: its value, and whether its needs are met.
 #![tactic(auto)]
 
-ghost use Rattle.std.specs.Prelude.{◌≡◌, List, ℕ, ◌%◌, ◌-◌, ◌<◌, ◌≤◌, min};
+ghost use Rattle.std.specs.Prelude.{◌≡◌, ◌-◌, ◌<◌, min};
 ghost use Rattle.evals.specs.Passes.{mk, value_now, met_now, vals_after, mets_after, tokens_in, tokens_there};
 
-// A stored place as an index: within its array whatever it is.
-fn spot_of(x: u16) -> usize
-    ensures { (result ≡ x % 2048) × (result < 2048) }
-{
-    (x % 2048) as usize
+use lanes::Network;
+use plans::Plan;
+
+// What is found of the nodes and, behind them, of the queues' oldest tokens: the values, and whether needs are met. The places behind those are nowhere: a field
+// that is no operand is read there. Two arrays, since the definitions of specs/Passes speak of each apart.
+#[derive(Clone, Copy)]
+pub struct Found {
+    pub vals: [u32; 2048],
+    pub mets: [bool; 2048],
 }
 
-// The value of node i, from what was found before it.
-fn value_now<'x>(
-    code: &'x [u8; 1024],
-    width: &'x [u8; 1024],
-    join: &'x [u8; 1024],
-    k: &'x [u32; 1024],
-    ra: &'x [u16; 1024],
-    rb: &'x [u16; 1024],
-    rc: &'x [u16; 1024],
-    held: &[u32; 1024],
-    vals: &[u32; 2048],
-    i: usize,
-) -> u32
-    requires { i < 1024 }
-    ensures { result ≡ value_now (mk code.now width.now join.now k.now ra.now rb.now rc.now) held.now vals.now i }
-{
-    let kind = code[i];
-    let p = spot_of(ra[i]);
-    if kind == 0x00 {
-        return vals[p];
-    }
-    if kind == 0x02 {
-        return held[i];
-    }
-    let q = spot_of(rb[i]);
-    let s = spot_of(rc[i]);
-    values::node_value(kind, width[i], join[i], k[i], vals[p], vals[q], vals[s])
-}
+// Nothing found of any node or queue.
+pub const NOTHING: Found = Found {
+    vals: [0; 2048],
+    mets: [false; 2048],
+};
 
-// Whether node i's needs are met, from what was found before it.
-fn met_now<'x>(
-    code: &'x [u8; 1024],
-    ra: &'x [u16; 1024],
-    rb: &'x [u16; 1024],
-    rc: &'x [u16; 1024],
-    mets: &[bool; 2048],
-    i: usize,
-) -> bool
-    requires { i < 1024 }
-    ensures { (width join k : List ℕ) → result ≡ met_now (mk code.now width join k ra.now rb.now rc.now) mets.now i }
-{
-    let kind = code[i];
-    let p = spot_of(ra[i]);
-    if kind == 0x00 {
-        return mets[p];
+impl Found {
+    // The value of node i, from what was found before it. A stored place is taken within the arrays whatever it is.
+    #[tactic(auto, unfolding(crate::specs::Passes::value_now))]
+    fn value(&self, plan: &Plan, held: &[u32; 1024], i: usize) -> u32
+        requires { i < 1024 }
+        ensures { result ≡ value_now (mk plan.now.code plan.now.width plan.now.join plan.now.k plan.now.ra plan.now.rb plan.now.rc) held.now self.now.vals i }
+    {
+        let p = plan.ra[i] as usize % 2048;
+        let q = plan.rb[i] as usize % 2048;
+        let s = plan.rc[i] as usize % 2048;
+        match plan.code[i] {
+            0x00 => self.vals[p],
+            0x02 => held[i],
+            code => values::node_value(
+                code,
+                plan.width[i],
+                plan.join[i],
+                plan.k[i],
+                self.vals[p],
+                self.vals[q],
+                self.vals[s],
+            ),
+        }
     }
-    if kind == 0x02 {
-        return true;
-    }
-    let q = spot_of(rb[i]);
-    let s = spot_of(rc[i]);
-    mets[p] & mets[q] & mets[s]
-}
 
-// Evaluates the nodes from lo up to hi, or up to the arrays' end, in their order.
-pub fn evaluate<'x>(
-    code: &'x [u8; 1024],
-    width: &'x [u8; 1024],
-    join: &'x [u8; 1024],
-    k: &'x [u32; 1024],
-    ra: &'x [u16; 1024],
-    rb: &'x [u16; 1024],
-    rc: &'x [u16; 1024],
-    held: &[u32; 1024],
-    lo: usize,
-    hi: usize,
-    vals: &mut [u32; 2048],
-    mets: &mut [bool; 2048],
-)
-    ensures { (vals.new ≡ vals_after (mk code.now width.now join.now k.now ra.now rb.now rc.now) held.now lo (min hi 1024 - lo) vals.old) × (mets.new ≡ mets_after (mk code.now width.now join.now k.now ra.now rb.now rc.now) lo (min hi 1024 - lo) mets.old) }
-{
-    let end = base::least(hi, 1024);
-    let mut i = lo;
-    while i < end {
-        let x = value_now(code, width, join, k, ra, rb, rc, held, vals, i);
-        let met = met_now(code, ra, rb, rc, mets, i);
-        vals[i] = x;
-        mets[i] = met;
-        i += 1;
+    // Whether node i's needs are met, from what was found before it.
+    #[tactic(auto, unfolding(crate::specs::Passes::met_now))]
+    fn met(&self, plan: &Plan, i: usize) -> bool
+        requires { i < 1024 }
+        ensures { result ≡ met_now (mk plan.now.code plan.now.width plan.now.join plan.now.k plan.now.ra plan.now.rb plan.now.rc) self.now.mets i }
+    {
+        let p = plan.ra[i] as usize % 2048;
+        let q = plan.rb[i] as usize % 2048;
+        let s = plan.rc[i] as usize % 2048;
+        match plan.code[i] {
+            0x00 => self.mets[p],
+            0x02 => true,
+            _ => self.mets[p] & self.mets[q] & self.mets[s],
+        }
     }
-}
 
-// The oldest token of each of the first n queues, and whether it has one.
-pub fn load_tokens<'x>(
-    cells: &'x [u32; 8192],
-    used: &'x [u8; 512],
-    n: usize,
-    vals: &mut [u32; 2048],
-    mets: &mut [bool; 2048],
-)
-    ensures { (vals.new ≡ tokens_in cells.now (min n 512) vals.old) × (mets.new ≡ tokens_there used.now (min n 512) mets.old) }
-{
-    let end = base::least(n, 512);
-    let mut q = 0;
-    while q < end {
-        vals[1024 + q] = cells[q * 16];
-        mets[1024 + q] = 0 < used[q];
-        q += 1;
+    // Evaluates the nodes from lo up to hi, or up to the arrays' end, in their order.
+    pub fn evaluate(&mut self, plan: &Plan, held: &[u32; 1024], lo: usize, hi: usize)
+        ensures { (self.new.vals ≡ vals_after (mk plan.now.code plan.now.width plan.now.join plan.now.k plan.now.ra plan.now.rb plan.now.rc) held.now lo (min hi 1024 - lo) self.old.vals) × (self.new.mets ≡ mets_after (mk plan.now.code plan.now.width plan.now.join plan.now.k plan.now.ra plan.now.rb plan.now.rc) lo (min hi 1024 - lo) self.old.mets) }
+    {
+        for i in lo..hi.min(1024) {
+            let x = self.value(plan, held, i);
+            let met = self.met(plan, i);
+            self.vals[i] = x;
+            self.mets[i] = met;
+        }
+    }
+
+    // The oldest token of each of the first n queues, and whether it has one.
+    pub fn load(&mut self, network: &Network, n: usize)
+        ensures { (self.new.vals ≡ tokens_in network.now.cells (min n 512) self.old.vals) × (self.new.mets ≡ tokens_there network.now.used (min n 512) self.old.mets) }
+    {
+        for q in 0..n.min(512) {
+            self.vals[1024 + q] = network.cells[q * 16];
+            self.mets[1024 + q] = 0 < network.used[q];
+        }
     }
 }

@@ -1,5 +1,7 @@
--- One turn of each pass.
-use Rattle.std.proofs.Common.{◌≡◌, ℕ, suc, ◌+◌, ◌-◌, ◌≤◌, Bool, false, cond, not, ◌&&◌, ltb, List, get_or, set, ap, ◌∙◌, le_refl, add-one, arith}
+-- One turn of each pass, and the marked parts counted.
+use Rattle.std.proofs.Common.{◌≡◌, ℕ, zero, suc, ◌+◌, ◌-◌, ◌<◌, ◌≤◌, Bool, true, false, cond, not, ◌&&◌, ltb, List, length, take, count_by, get_or, set, refl, sym, ap, ◌∙◌, le_refl, add-one, add-zero, arith}
+use Rattle.std.proofs.lemmas.List.{set-get_or}
+use Rattle.std.proofs.lemmas.List.Sums.{count_by_more_no, count_by_more_yes}
 use Rattle.base.specs.Lists.{fill}
 use Rattle.base.proofs.Fill.{fill_step, fill-past}
 use Rattle.lanes.specs.Lanes.{take_used}
@@ -16,30 +18,41 @@ below-turn count limit lo p l₀ l h e =
     let t : lo + (p - lo) ≡ p = omega arith in
     rw (s, t, ← e)
 
-pub cleared-turn : (from into : List ℕ) (flag : List Bool) (used : List ℕ) (q x y : ℕ) (l₀ l : List Bool)
+pub cleared-turn : (from into : List ℕ) (flag : List Bool) (used : List ℕ) (q : ℕ) (l₀ l : List Bool)
     → l ≡ cleared from into flag used q l₀
-    → x ≡ part_in from q
-    → y ≡ part_in into q
-    → held_by (held_by l x (get_or flag q false)) y (ltb 0 (get_or used q 0)) ≡ cleared from into flag used (q + 1) l₀
+    → held_by (held_by l (part_in from q) (get_or flag q false)) (part_in into q) (ltb 0 (get_or used q 0)) ≡ cleared from into flag used (q + 1) l₀
 unfolding cleared
-cleared-turn from into flag used q x y l₀ l e h g = rw (add-one q, e, h, g)
+cleared-turn from into flag used q l₀ l e = rw (add-one q, e)
 
 -- an element that is not yet filled is what it was
 pub fill-turn : (f : ℕ → ℕ) (i v : ℕ) (xs l : List ℕ) → l ≡ fill f i xs → (get_or l i 0 ≡ get_or xs i 0 → v ≡ f i) → set l i v ≡ fill f (i + 1) xs
 fill-turn f i v xs l e h = fill_step f i v xs l e (h (ap (λ k. get_or k i 0) e ∙ fill-past f i i xs (le_refl i)))
 
-pub used_turn : (into : List ℕ) (fin : List Bool) (q : ℕ) (b : Bool) (u₀ u v : List ℕ) → u ≡ used_after into fin q u₀ → b ≡ get_or fin (part_in into q) false → v ≡ cond (b && ltb 0 (get_or u q 0)) (take_used u q) u → v ≡ used_after into fin (q + 1) u₀
+-- and stays so where nothing is stored
+pub fill-kept : (f : ℕ → ℕ) (i : ℕ) (xs l : List ℕ) → l ≡ fill f i xs → get_or xs i 0 ≡ f i → l ≡ fill f (i + 1) xs
+fill-kept f i xs l e h = sym (set-get_or l i 0) ∙ fill-turn f i (get_or l i 0) xs l e (λ k. k ∙ h)
+
+pub used_turn : (into : List ℕ) (fin : List Bool) (q : ℕ) (u₀ u v : List ℕ) → u ≡ used_after into fin q u₀ → v ≡ cond (get_or fin (part_in into q) false && ltb 0 (get_or u q 0)) (take_used u q) u → v ≡ used_after into fin (q + 1) u₀
 unfolding used_after
-used_turn into fin q b u₀ u v e h g = rw (add-one q, ← e, ← h) g
+used_turn into fin q u₀ u v e g = rw (add-one q, ← e) g
 
-pub cells-turn : (into : List ℕ) (fin : List Bool) (q : ℕ) (b : Bool) (u₀ u c₀ c d : List ℕ) → u ≡ used_after into fin q u₀ → c ≡ cells_after into fin q u₀ c₀ → b ≡ get_or fin (part_in into q) false → d ≡ take_if b u c q → d ≡ cells_after into fin (q + 1) u₀ c₀
+pub cells-turn : (into : List ℕ) (fin : List Bool) (q : ℕ) (u₀ u c₀ c d : List ℕ) → u ≡ used_after into fin q u₀ → c ≡ cells_after into fin q u₀ c₀ → d ≡ take_if (get_or fin (part_in into q) false) u c q → d ≡ cells_after into fin (q + 1) u₀ c₀
 unfolding cells_after
-cells-turn into fin q b u₀ u c₀ c d e k h g = rw (add-one q, ← e, ← k, ← h) g
+cells-turn into fin q u₀ u c₀ c d e k g = rw (add-one q, ← e, ← k) g
 
-pub flags-turn : (from : List ℕ) (fin : List Bool) (q : ℕ) (b : Bool) (f₀ f : List Bool) → f ≡ flags_after from fin q f₀ → b ≡ get_or fin (part_in from q) false → set f q (get_or f q false && not b) ≡ flags_after from fin (q + 1) f₀
+pub flags-turn : (from : List ℕ) (fin : List Bool) (q : ℕ) (f₀ f : List Bool) → f ≡ flags_after from fin q f₀ → set f q (get_or f q false && not (get_or fin (part_in from q) false)) ≡ flags_after from fin (q + 1) f₀
 unfolding flags_after
-flags-turn from fin q b f₀ f e h = rw (add-one q, ← e, h)
+flags-turn from fin q f₀ f e = rw (add-one q, ← e)
 
-pub finished-turn : (fin : List Bool) (p n r : ℕ) → n ≡ finished fin p → r ≡ cond (get_or fin p false) 1 0 → n + r ≡ finished fin (p + 1)
+-- the marked ones among the first n
+more : (fin : List Bool) (n : ℕ) (b : Bool) → n < length fin → get_or fin n false ≡ b → count_by (λ x. x) (take (n + 1) fin) ≡ count_by (λ x. x) (take n fin) + cond b 1 0
+more fin n true h e = count_by_more_yes (λ x. x) fin n false h e
+more fin n false h e = count_by_more_no (λ x. x) fin n false h e ∙ sym (add-zero (count_by (λ x. x) (take n fin)))
+
+pub counted : (fin : List Bool) (n : ℕ) → n ≤ length fin → count_by (λ x. x) (take n fin) ≡ finished fin n
 unfolding finished
-finished-turn fin p n r e h = rw (add-one p, e, h)
+counted fin zero h = refl
+counted fin (suc n) h =
+    ap (λ k. count_by (λ x. x) (take k fin)) (sym (add-one n))
+    ∙ more fin n (get_or fin n false) (omega arith) refl
+    ∙ ap (λ k. k + cond (get_or fin n false) 1 0) (counted fin n (omega arith))

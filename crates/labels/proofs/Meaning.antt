@@ -7,7 +7,7 @@ use native.Mathlib.Omega.{arith}
 use denote.Ref.{Bor}
 use lib.ListN.{take, drop}
 use lib.Seq.{take-take, drop-drop}
-use Rattle.base.specs.declared.Check.TheVariants.{Good}
+use Rattle.std.specs.Prelude.{None}
 use Rattle.layout.specs.Labels.{entry_length, label_check}
 use Rattle.layout.specs.Trailer.{label_bytes}
 use Rattle.net_sheet.specs.Image.{net_letter}
@@ -23,7 +23,7 @@ use Rattle.labels.proofs.Opened.{Labelled}
 use Rattle.labels.proofs.Spots.{opened, spot_open, spot-refused, spot_in_cut, spot_in_net, spot_in_none}
 
 -- the text of a sheet's entry, and no text
-module _ (net s : List ℕ) (node : ℕ) (g : label_check (nodes_of net) (label_section s) ≡ Good) where
+module _ (net s : List ℕ) (node : ℕ) (g : label_check (nodes_of net) (label_section s) ≡ None) where
   text_is : (i : ℕ) → Labels net s node i → sheet_text s node ≡ moved (labels_at s) (text_at (label_section s) i)
   text_is i e = ap (moved (labels_at s)) ((text-found (nodes_of net) (label_section s) node i g).1 e)
 

@@ -7,7 +7,7 @@ use native.Mathlib.Omega.{arith}
 use borrow.Author.Tests.{leb-true, eq-eqb}
 use lib.Dec.{leb, eqb, lit<, lit≤}
 use lib.ListN.{length, take, drop, replicate}
-use Rattle.base.specs.declared.Check.TheVariants.{Good}
+use Rattle.std.specs.Prelude.{None}
 use Rattle.base.specs.Checks.{AllGood}
 use Rattle.base.proofs.Tests.{and_left, and_right}
 use Rattle.base.proofs.Verdicts.{good-all, whole-good}
@@ -29,7 +29,7 @@ use Rattle.labels.proofs.Sections.{sections_good}
 
 pub record Labelled (letter nodes : ℕ) (s : List ℕ) : Type 0 where
   pub good : (sections_of letter s).good ≡ true
-  pub entries : label_check nodes (label_section s) ≡ Good
+  pub entries : label_check nodes (label_section s) ≡ None
 
 -- the sections and the trailer fill the sheet
 room : (letter : ℕ) (s : List ℕ) → 16 ≤ length s → trailer_good letter s ≡ true → labels_at s + label_bytes s ≤ length s

@@ -1,17 +1,18 @@
 -- Where the labels section of a sheet with a good trailer lies: behind the first two sections, and in front of the trailer.
-use mathlib.Core.Path.{◌≡◌, ◌∙◌, ap}
-use mathlib.Core.Bool.{true}
+use mathlib.Core.Path.{◌≡◌, refl, ap}
+use mathlib.Core.Bool.{Bool, true, false, cond}
 use mathlib.Core.List.{List}
 use Prim.Native.Nat.{ℕ, ◌+◌, ◌-◌, ◌≤◌}
 use native.Mathlib.Omega.{arith}
 use borrow.Author.Tests.{le-leb}
+use Rattle.std.specs.Prelude.{Option, Some, None}
 use lib.ListN.{length, take, drop, length-drop}
 use lib.Seq.{length-take-le}
 use Rattle.layout.specs.declared.trailer.Sections.{Sections}
-use Rattle.layout.specs.Trailer.{trailer_good, label_bytes, sections_of}
-use Rattle.layout.proofs.Found.{Found, found, named, fills}
+use Rattle.layout.specs.Trailer.{trailer_good, label_bytes, sections_of, parts, where_good}
+use Rattle.layout.proofs.Found.{answered_some, found, named, fills}
 use Rattle.texts.specs.declared.Text.{Text}
-use Rattle.texts.specs.Texts.{text_of}
+use Rattle.texts.specs.Texts.{Found, text_of, where_found}
 use Rattle.texts.proofs.Meaning.{text-within}
 use Rattle.labels.specs.Spots.{labels_at, label_section, moved, sheet_text}
 
@@ -19,10 +20,27 @@ pub sections_good : (letter : ℕ) (s : List ℕ) → 16 ≤ length s → traile
 unfolding sections_of
 sections_good letter s h g = rw (le-leb 16 (length s) h, g)
 
+-- a text that was found is that of the definition, and one that was not is none there
+some_on : (f : Found) (u : Text) (b : Bool) → f.found ≡ b → Some u ≡ cond b (Some (record { from = f.from; length = f.length })) None → f ≡ record { found = true; from = u.from; length = u.length }
+some_on f u true q e =
+    let same : u ≡ record { from = f.from; length = f.length } = cc in
+    rw (q, same)
+some_on f u false q e = let z : ◌≡◌ {A = ℕ} 0 1 = cc in let y : ⊥ = omega arith in absurd y
+
+pub text_some : (f : Found) (u : Text) → Some u ≡ where_found f → f ≡ record { found = true; from = u.from; length = u.length }
+text_some f u e = some_on f u f.found refl e
+
+none_on : (f : Found) (b : Bool) → f.found ≡ b → ◌≡◌ {A = Option Text} None (cond b (Some (record { from = f.from; length = f.length })) None) → b ≡ false
+none_on f true q e = let z : ◌≡◌ {A = ℕ} 0 1 = cc in let y : ⊥ = omega arith in absurd y
+none_on f false q e = refl
+
+pub text_none : (f : Found) → None ≡ where_found f → f.found ≡ false
+text_none f e = none_on f f.found refl e
+
 module _ (letter : ℕ) (s : List ℕ) (g : (sections_of letter s).good ≡ true) where
   pub section_room : labels_at s + label_bytes s ≤ length s
   section_room =
-      let f : Found letter s = found letter s g in
+      let f = found letter s g in
       omega (arith, fills letter s f.good, f.long)
 
   pub section_length : length (label_section s) ≡ label_bytes s
@@ -33,18 +51,17 @@ module _ (letter : ℕ) (s : List ℕ) (g : (sections_of letter s).good ≡ true
     pub at : t.front + t.middle ≡ labels_at s
     pub bytes : t.labels ≡ label_bytes s
 
-  pub found_at : (t : Sections) → t ≡ sections_of letter s → Found_at t
+  pub found_at : (t : Sections) → Some t ≡ where_good (sections_of letter s) → Found_at t
   found_at t e =
-      let q : t ≡ named s = e ∙ (found letter s g).is in
+      let q : t ≡ parts (named s) = (answered_some letter s t e).is in
       record { at = ap (λ x. x.front + x.middle) q; bytes = ap (λ x. x.labels) q }
 
-  -- a text that was found in the part of the sheet that they name
-  pub text-moved : (t : Sections) → t ≡ sections_of letter s → (u : Text) (node : ℕ) → u ≡ text_of (take (t.front + t.middle + t.labels - (t.front + t.middle)) (drop (t.front + t.middle) s)) node → moved (t.front + t.middle) u ≡ sheet_text s node
-  text-moved t e u node h =
+  -- a text that was looked for in the part of the sheet that they name
+  pub text-moved : (t : Sections) → Some t ≡ where_good (sections_of letter s) → (node : ℕ) → moved (t.front + t.middle) (text_of (take (t.front + t.middle + t.labels - (t.front + t.middle)) (drop (t.front + t.middle) s)) node) ≡ sheet_text s node
+  text-moved t e node =
       let f = found_at t e in
       let n : t.front + t.middle + t.labels - (t.front + t.middle) ≡ label_bytes s = omega (arith, f.bytes) in
-      let q : u ≡ text_of (label_section s) node = rw (n, f.at) at h in
-      rw (f.at, q)
+      rw (n, f.at)
 
   -- a text lies within the sheet
   pub text-room : (node : ℕ) → (sheet_text s node).from + (sheet_text s node).length ≤ length s

@@ -5,18 +5,31 @@ use mathlib.Core.List.{List}
 use Prim.Native.Nat.{ℕ, ◌+◌, ◌≤◌}
 use native.Mathlib.Omega.{arith}
 use borrow.Author.Tests.{eq-eqb, ne_eqb, eqb-true}
+use denote.Ref.{Bor}
 use lib.Dec.{eqb}
 use lib.ListN.{length}
+use Rattle.std.specs.Prelude.{Some, None}
+use Rattle.std.specs.Option.{unwrap_or, option_or}
 use Rattle.base.proofs.Tests.{and_left, and_right}
 use Rattle.net_sheet.specs.Image.{net_letter}
 use Rattle.net_sheet.specs.Reading.{net_read}
 use Rattle.cut_sheet.specs.Image.{cut_letter}
 use Rattle.cut_sheet.specs.Reading.{cut_read}
 use Rattle.labels.specs.declared.Spot.{Spot}
-use Rattle.labels.specs.Spots.{opens, sheet_text, text_spot, sheet_spot, net_end, open_spot, spot_of, of_sheet}
+use Rattle.labels.specs.Spots.{opens, sheet_text, text_spot, sheet_spot, where_label, net_end, first_found, open_spot, spot_of, of_sheet}
 use Rattle.labels.specs.Meaning.{nodes_of, LabelRefused, LabelWithin}
 use Rattle.labels.proofs.Sections.{text-room}
 use Rattle.labels.proofs.Opened.{Labelled, net_labelled, cut_labelled}
+
+-- the first of two that is a label, and else the third
+first_on : (p q d : Spot) (x y : Bool) → unwrap_or (option_or (cond x (Some p) None) (cond y (Some q) None)) d ≡ cond x p (cond y q d)
+first_on p q d true true = refl
+first_on p q d true false = refl
+first_on p q d false true = refl
+first_on p q d false false = refl
+
+pub or_first : (p q d : Spot) → unwrap_or (option_or (where_label p) (where_label q)) d ≡ first_found p (first_found q d)
+or_first p q d = first_on p q d p.found q.found
 
 -- both readers answer 0, and so each sheet passed its checks
 pub record Opened (net cut : List ℕ) : Type 0 where
@@ -91,13 +104,12 @@ pub label-within : LabelWithin
 unfolding spot_of
 label-within net cut node = within_on net cut node (opens net cut) refl
 
--- the same of a spot that was given, by its sheet
-module _ (net cut : List ℕ) (node : ℕ) (p : Spot) (e : p ≡ spot_of net cut node) where
-  given-within : p.from + p.length ≤ length (of_sheet p net cut)
-  given-within = rw e (label-within net cut node)
+-- the same of a spot that was given, in the sheet that is lent for it
+of_now : (b : Bool) (x y : Bor (List ℕ)) → (cond b x y).now ≡ cond b x.now y.now
+of_now true x y = refl
+of_now false x y = refl
 
-  pub within_cut : p.cut ≡ true → p.from + p.length ≤ length cut
-  within_cut b = rw b at given-within
-
-  pub within-net : p.cut ≡ false → p.from + p.length ≤ length net
-  within-net b = rw b at given-within
+pub within_sheet : (net cut sheet : Bor (List ℕ)) (node : ℕ) (p : Spot) → p ≡ spot_of net.now cut.now node → sheet ≡ of_sheet p net cut → p.from + p.length ≤ length sheet.now
+within_sheet net cut sheet node p e h =
+    let w : p.from + p.length ≤ length (of_sheet p net.now cut.now) = rw e (label-within net.now cut.now node) in
+    rw (h, of_now p.cut cut net) w

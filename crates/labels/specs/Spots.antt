@@ -1,13 +1,12 @@
 -- Where a node's label stands (outline, "The cut sheet"): the cut sheet's if it has one, else the net sheet's; with neither, or with sheets that opening refuses, the empty part at the net sheet's end.
-use Rattle.std.specs.Prelude.{◌≡◌, Bool, false, cond, ◌&&◌, List, ℕ, ◌+◌, eqb, length, take, drop}
+use Rattle.std.specs.Prelude.{◌≡◌, Bool, false, cond, ◌&&◌, List, ℕ, ◌+◌, eqb, length, take, drop, Option, Some, None}
 use Rattle.std.specs.Borrow.{Bor}
 use Rattle.layout.specs.Trailer.{front_bytes, middle_bytes, label_bytes}
 use Rattle.net_sheet.specs.Image.{net_letter}
 use Rattle.net_sheet.specs.Reading.{net_read}
 use Rattle.cut_sheet.specs.Image.{cut_letter}
 use Rattle.cut_sheet.specs.Reading.{cut_read}
-use Rattle.texts.specs.declared.Text.{Text}
-use Rattle.texts.specs.Texts.{text_of}
+use Rattle.texts.specs.Texts.{Found, text_of}
 use Rattle.labels.specs.declared.Spot.{Spot}
 
 -- no limit is asked for: opening refuses at every limit what the reader of a sheet refuses
@@ -22,13 +21,13 @@ abbrev pub label_section : List ℕ → List ℕ
 label_section s = take (label_bytes s) (drop (labels_at s) s)
 
 -- a text of the section, counted from the sheet's byte 0
-abbrev pub moved : ℕ → Text → Text
+abbrev pub moved : ℕ → Found → Found
 moved at t = record { found = t.found; from = at + t.from; length = t.length }
 
-abbrev pub sheet_text : List ℕ → ℕ → Text
+abbrev pub sheet_text : List ℕ → ℕ → Found
 sheet_text s node = moved (labels_at s) (text_of (label_section s) node)
 
-abbrev pub text_spot : Bool → Text → Spot
+abbrev pub text_spot : Bool → Found → Spot
 text_spot cut t = record { cut = cut; found = t.found; from = t.from; length = t.length }
 
 -- the spot of the node's text in a sheet, the sheet's second letter given
@@ -41,6 +40,10 @@ net_end net = record { cut = false; found = false; from = length net; length = 0
 
 abbrev pub first_found : Spot → Spot → Spot
 first_found p q = cond p.found p q
+
+-- a spot, where it is a label
+abbrev pub where_label : Spot → Option Spot
+where_label p = cond p.found (Some p) None
 
 unfoldable pub open_spot : List ℕ → List ℕ → ℕ → Spot
 open_spot net cut node = first_found (sheet_spot cut_letter cut node) (first_found (sheet_spot net_letter net node) (net_end net))

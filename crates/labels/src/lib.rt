@@ -3,9 +3,9 @@
 
 ghost use Rattle.std.specs.Prelude.{◌≡◌, true};
 ghost use Rattle.layout.specs.Trailer.{sections_of};
-ghost use Rattle.labels.specs.Spots.{sheet_spot, net_end, first_found, open_spot, spot_of, IsPart};
+ghost use Rattle.labels.specs.Spots.{sheet_spot, where_label, net_end, open_spot, spot_of, IsPart};
 
-// A part of one of the two sheets: whether it is the cut's, whether it is a label, its first byte, and its bytes.
+// A part of one of the two sheets, as C sees it and so with flags: whether it is the cut's, whether it is a label, its first byte, and its bytes.
 #[repr(C)]
 #[derive(Clone, Copy)]
 pub struct Spot {
@@ -15,20 +15,20 @@ pub struct Spot {
     pub length: usize,
 }
 
-// The spot of the node's text in a sheet whose trailer is good, the sheet's second letter given.
-fn sheet_spot(sheet: &[u8], letter: u8, node: usize) -> Spot
+// The spot of the node's text in a sheet whose trailer is good, the sheet's second letter given; none where no entry has the node.
+fn sheet_spot(sheet: &[u8], letter: u8, node: usize) -> Option<Spot>
     requires { (sections_of letter sheet.now).good ≡ true }
-    ensures { result ≡ sheet_spot letter sheet.now node }
+    ensures { result ≡ where_label (sheet_spot letter sheet.now node) }
 {
-    let s = layout::find_sections(sheet, letter);
+    let s = layout::find_sections(sheet, letter)?;
     let at = s.front + s.middle;
-    let t = texts::find_text(&sheet[at..at + s.labels], node);
-    Spot {
+    let t = texts::find_text(&sheet[at..at + s.labels], node)?;
+    Some(Spot {
         cut: letter == 0x43,
-        found: t.found,
+        found: true,
         from: at + t.from,
         length: t.length,
-    }
+    })
 }
 
 // The empty part at the net sheet's end.
@@ -43,13 +43,6 @@ fn net_end(net: &[u8]) -> Spot
     }
 }
 
-// The first spot where it is a label, else the second.
-fn first_found(first: Spot, second: Spot) -> Spot
-    ensures { result ≡ first_found first second }
-{
-    if first.found { first } else { second }
-}
-
 // The label's spot in sheets that open.
 fn open_spot(net: &[u8], cut: &[u8], node: usize) -> Spot
     requires { ((sections_of 0x4E net.now).good ≡ true) × ((sections_of 0x43 cut.now).good ≡ true) }
@@ -57,7 +50,7 @@ fn open_spot(net: &[u8], cut: &[u8], node: usize) -> Spot
 {
     let in_cut = sheet_spot(cut, 0x43, node);
     let in_net = sheet_spot(net, 0x4E, node);
-    first_found(in_cut, first_found(in_net, net_end(net)))
+    in_cut.or(in_net).unwrap_or(net_end(net))
 }
 
 // The label's spot in any two sheets, for callers that cannot be handed a part of a sheet.
@@ -68,7 +61,7 @@ pub fn label_spot(net: &[u8], cut: &[u8], node: usize) -> Spot
     if got.answer != 0 {
         return net_end(net);
     }
-    let read = cut_sheet::read_cut(got.net, cut);
+    let read = cut_sheet::read_cut(&got.net, cut);
     if read.answer != 0 {
         return net_end(net);
     }
@@ -80,11 +73,6 @@ pub fn label<'a>(net: &'a [u8], cut: &'a [u8], node: usize) -> &'a [u8]
     ensures { IsPart (spot_of net.now cut.now node) net.entry cut.entry result }
 {
     let spot = label_spot(net, cut, node);
-    let from = spot.from;
-    let length = spot.length;
-    if spot.cut {
-        &cut[from..from + length]
-    } else {
-        &net[from..from + length]
-    }
+    let sheet = if spot.cut { cut } else { net };
+    &sheet[spot.from..spot.from + spot.length]
 }

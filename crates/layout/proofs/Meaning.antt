@@ -9,7 +9,7 @@ use native.Mathlib.Omega.{arith}
 use borrow.Author.Tests.{leb-true, leb-false}
 use lib.Dec.{leb}
 use lib.ListN.{length}
-use Rattle.base.specs.declared.Check.TheVariants.{Good, Bad}
+use Rattle.std.specs.Prelude.{None, Some}
 use Rattle.layout.specs.Labels.{entry_good, entry_node, entry_end, labels_from, label_check, Reached, start, next, BadEntry, Filled}
 use Rattle.layout.proofs.Entries.{entry-within, labels-start, labels-bad, labels_next, labels-end}
 
@@ -33,8 +33,8 @@ module _ (nodes : ℕ) (s : List ℕ) where
       rw (← add-one e, ← add-one (entry_node s i)) (sym (labels_next nodes s i least e (omega (arith, p.low)) h g) ∙ from-here r)
 
   bad_on : (d i least e b : ℕ) → Reached nodes s e i least → (x y : Bool) → leb (length s) i ≡ x → entry_good nodes least s i ≡ y
-      → cond x Good (cond y (labels_from d nodes s (entry_end s i) (suc (entry_node s i)) (suc e)) (Bad e)) ≡ Bad b
-      → (Reached nodes s (suc e) (entry_end s i) (suc (entry_node s i)) → labels_from d nodes s (entry_end s i) (suc (entry_node s i)) (suc e) ≡ Bad b → BadEntry nodes s b)
+      → cond x None (cond y (labels_from d nodes s (entry_end s i) (suc (entry_node s i)) (suc e)) (Some e)) ≡ Some b
+      → (Reached nodes s (suc e) (entry_end s i) (suc (entry_node s i)) → labels_from d nodes s (entry_end s i) (suc (entry_node s i)) (suc e) ≡ Some b → BadEntry nodes s b)
       → BadEntry nodes s b
   bad_on d i least e b r true y q g h more = let z : ◌≡◌ {A = ℕ} 0 1 = cc in let n : ⊥ = omega arith in absurd n
   bad_on d i least e b r false true q g h more = more (next r (leb-false (length s) i q) g) h
@@ -48,17 +48,17 @@ module _ (nodes : ℕ) (s : List ℕ) where
         bad = g;
       }
 
-  bad-from : (d i least e b : ℕ) → Reached nodes s e i least → labels_from d nodes s i least e ≡ Bad b → BadEntry nodes s b
+  bad-from : (d i least e b : ℕ) → Reached nodes s e i least → labels_from d nodes s i least e ≡ Some b → BadEntry nodes s b
   unfolding labels_from
   bad-from zero i least e b r h = let z : ◌≡◌ {A = ℕ} 0 1 = cc in let n : ⊥ = omega arith in absurd n
   bad-from (suc d) i least e b r h = bad_on d i least e b r (leb (length s) i) (entry_good nodes least s i) refl refl h (λ r' h'. bad-from d (entry_end s i) (suc (entry_node s i)) (suc e) b r' h')
 
-  to_bad : (b : ℕ) → BadEntry nodes s b → label_check nodes s ≡ Bad b
+  to_bad : (b : ℕ) → BadEntry nodes s b → label_check nodes s ≡ Some b
   to_bad b f =
       let p = place f.reached in
       sym (from-here f.reached) ∙ labels-bad nodes s f.byte f.least b (omega (arith, p.low, f.inside)) f.inside f.bad
 
-  pub label-bad : (b : ℕ) → (label_check nodes s ≡ Bad b) ↔ BadEntry nodes s b
+  pub label-bad : (b : ℕ) → (label_check nodes s ≡ Some b) ↔ BadEntry nodes s b
   label-bad b = (λ h. bad-from (length s) 0 0 0 b start h, to_bad b)
 
   at_end : (e i least : ℕ) → Reached nodes s e i least → length s ≤ i → Filled nodes s
@@ -68,22 +68,22 @@ module _ (nodes : ℕ) (s : List ℕ) where
       record { entries = e; least = least; reached = rw (← same) r }
 
   good_on : (d i least e : ℕ) → Reached nodes s e i least → (x y : Bool) → leb (length s) i ≡ x → entry_good nodes least s i ≡ y
-      → cond x Good (cond y (labels_from d nodes s (entry_end s i) (suc (entry_node s i)) (suc e)) (Bad e)) ≡ Good
-      → (Reached nodes s (suc e) (entry_end s i) (suc (entry_node s i)) → labels_from d nodes s (entry_end s i) (suc (entry_node s i)) (suc e) ≡ Good → Filled nodes s)
+      → cond x None (cond y (labels_from d nodes s (entry_end s i) (suc (entry_node s i)) (suc e)) (Some e)) ≡ None
+      → (Reached nodes s (suc e) (entry_end s i) (suc (entry_node s i)) → labels_from d nodes s (entry_end s i) (suc (entry_node s i)) (suc e) ≡ None → Filled nodes s)
       → Filled nodes s
   good_on d i least e r true y q g h more = at_end e i least r (leb-true (length s) i q)
   good_on d i least e r false true q g h more = more (next r (leb-false (length s) i q) g) h
   good_on d i least e r false false q g h more = let z : ◌≡◌ {A = ℕ} 0 1 = cc in let n : ⊥ = omega arith in absurd n
 
-  good-from : (d i least e : ℕ) → Reached nodes s e i least → length s ≤ e + d → labels_from d nodes s i least e ≡ Good → Filled nodes s
+  good-from : (d i least e : ℕ) → Reached nodes s e i least → length s ≤ e + d → labels_from d nodes s i least e ≡ None → Filled nodes s
   unfolding labels_from
   good-from zero i least e r l h =
       let p = place r in
       at_end e i least r (omega (arith, p.low))
   good-from (suc d) i least e r l h = good_on d i least e r (leb (length s) i) (entry_good nodes least s i) refl refl h (λ r' h'. good-from d (entry_end s i) (suc (entry_node s i)) (suc e) r' (omega arith) h')
 
-  to_good : Filled nodes s → label_check nodes s ≡ Good
+  to_good : Filled nodes s → label_check nodes s ≡ None
   to_good f = sym (from-here f.reached) ∙ labels-end nodes s (length s) f.least f.entries (length s - f.entries) (omega arith)
 
-  pub label-good : (label_check nodes s ≡ Good) ↔ Filled nodes s
+  pub label-good : (label_check nodes s ≡ None) ↔ Filled nodes s
   label-good = (λ h. good-from (length s) 0 0 0 start (omega arith) h, to_good)

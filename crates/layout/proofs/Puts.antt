@@ -30,11 +30,6 @@ module _ (f : ℕ → List ℕ) (k : ℕ) (sized : (i : ℕ) → length (f i) �
   pub put-room : (j : ℕ) → j < n → i + (j * k + k) ≤ length xs
   put-room j h = omega (arith, mul-le-mul_right {m = suc j} {n = n} k h, suc-mul j k)
 
-  pub put-length : (j : ℕ) (l : List ℕ) → l ≡ patch xs i (flat f j) → j ≤ n → length l ≡ length xs
-  put-length j l e h =
-      let long : length (flat f j) ≡ j * k = flat-length f k sized j in
-      rw e (patch-length xs i (flat f j) (omega (arith, mul-le-mul_right {m = j} {n = n} k h)))
-
   pub put_step : (j m : ℕ) (l bs : List ℕ) → j < n → l ≡ patch xs i (flat f j) → m ≡ i + j * k → bs ≡ f j → placed l m bs ≡ patch xs i (flat f (j + 1))
   put_step j m l bs h e at same =
       let long : length (flat f j) ≡ j * k = flat-length f k sized j in

@@ -2,8 +2,8 @@
 use Rattle.std.specs.Prelude.{◌≡◌, Bool, true, false, cond, ◌&&◌, List, ℕ, zero, suc, ◌+◌, ◌<◌, ltb, leb, length, get_or}
 use Rattle.base.specs.Bytes.{two_at}
 use Rattle.base.specs.Checks.{every}
-use Rattle.base.specs.declared.Check.{Check}
-use Rattle.base.specs.declared.Check.TheVariants.{Good, Bad}
+use Rattle.std.specs.Prelude.{Option}
+use Rattle.std.specs.Prelude.{None, Some}
 
 -- the entry at byte i: its node, its length, and the byte behind it
 abbrev pub entry_node : List ℕ → ℕ → ℕ
@@ -30,13 +30,13 @@ entry_good nodes least s i =
     && text_good s (i + 3) (entry_length s i)
 
 -- The first bad entry from byte i on, entries counted from e. An entry takes more than one byte, so a section of d bytes has no more than d entries.
-unfoldable pub labels_from : ℕ → ℕ → List ℕ → ℕ → ℕ → ℕ → Check
-labels_from zero nodes s i least e = Good
+unfoldable pub labels_from : ℕ → ℕ → List ℕ → ℕ → ℕ → ℕ → Option ℕ
+labels_from zero nodes s i least e = None
 labels_from (suc d) nodes s i least e =
-    cond (leb (length s) i) Good
-    (cond (entry_good nodes least s i) (labels_from d nodes s (entry_end s i) (suc (entry_node s i)) (suc e)) (Bad e))
+    cond (leb (length s) i) None
+    (cond (entry_good nodes least s i) (labels_from d nodes s (entry_end s i) (suc (entry_node s i)) (suc e)) (Some e))
 
-abbrev pub label_check : ℕ → List ℕ → Check
+abbrev pub label_check : ℕ → List ℕ → Option ℕ
 label_check nodes s = labels_from (length s) nodes s 0 0 0
 
 -- Entry e stands at byte i, where its node's number is to be `least` or more: every entry before it is good, and each begins where the one before it ends.

@@ -1,6 +1,7 @@
 -- The trailer of a sheet (outline, "The net sheet" and "The cut sheet").
 use Rattle.std.specs.Prelude.{Bool, true, false, cond, ◌&&◌, List, [], ◌∷◌, ◌++◌, ℕ, ◌+◌, ◌-◌, eqb, leb, length, get_or}
 use Rattle.base.specs.Bytes.{two_at, four_at, le2, le4}
+use Rattle.std.specs.Prelude.{Option, Some, None}
 use Rattle.layout.specs.declared.trailer.Sections.{Sections}
 
 -- the trailer's first byte
@@ -37,14 +38,28 @@ middle_bytes s = to_middle s - to_labels s
 abbrev pub label_bytes : List ℕ → ℕ
 label_bytes s = to_labels s
 
-abbrev pub no_sections : Sections
+-- what a trailer names: whether it keeps to those rules, and the sections; zeros where it does not
+pub record Named : Type 0 where
+  pub good : Bool
+  pub front : ℕ
+  pub middle : ℕ
+  pub labels : ℕ
+
+abbrev pub no_sections : Named
 no_sections = record { good = false; front = 0; middle = 0; labels = 0 }
 
-unfoldable pub sections_of : ℕ → List ℕ → Sections
+unfoldable pub sections_of : ℕ → List ℕ → Named
 sections_of letter s =
     cond (leb 16 (length s) && trailer_good letter s)
     (record { good = true; front = front_bytes s; middle = middle_bytes s; labels = label_bytes s })
     no_sections
+
+-- the sections alone, where the trailer is good
+abbrev pub parts : Named → Sections
+parts n = record { front = n.front; middle = n.middle; labels = n.labels }
+
+abbrev pub where_good : Named → Option Sections
+where_good n = cond n.good (Some (parts n)) None
 
 -- the trailer behind sections of these many bytes
 abbrev pub trailer_bytes : ℕ → ℕ → ℕ → ℕ → List ℕ

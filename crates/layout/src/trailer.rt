@@ -1,12 +1,11 @@
 // The trailer: three distances back, the edition, and two letters.
 ghost use Rattle.std.specs.Prelude.{◌≡◌, ℕ, ◌+◌, ◌≤◌, length};
 ghost use Rattle.base.specs.Bytes.{two_at, four_at};
-ghost use Rattle.layout.specs.Trailer.{sections_of, trailer_bytes};
+ghost use Rattle.layout.specs.Trailer.{sections_of, where_good, trailer_bytes};
 
-// The bytes of a sheet's three sections, from byte 0; zeros where its trailer breaks the rules that both sheets share.
+// The bytes of a sheet's three sections, from byte 0.
 #[derive(Clone, Copy)]
 pub struct Sections {
-    pub good: bool,
     pub front: usize,
     pub middle: usize,
     pub labels: usize,
@@ -28,68 +27,37 @@ fn four_at(sheet: &[u8], i: usize) -> u32
     base::le32(sheet[i], sheet[i + 1], sheet[i + 2], sheet[i + 3])
 }
 
-// The sections that the trailer of a sheet names, the sheet's second letter given.
-pub fn find_sections(sheet: &[u8], letter: u8) -> Sections
-    ensures { result ≡ sections_of letter sheet.now }
+// The sections that the trailer of a sheet names, the sheet's second letter given; none where it breaks the rules that both sheets share.
+pub fn find_sections(sheet: &[u8], letter: u8) -> Option<Sections>
+    ensures { result ≡ where_good (sections_of letter sheet.now) }
 {
-    let bad = Sections {
-        good: false,
-        front: 0,
-        middle: 0,
-        labels: 0,
-    };
-    if sheet.len() < 16 {
-        return bad;
-    }
-    let t = sheet.len() - 16;
-    let x = four_at(sheet, t) as usize;
-    let y = four_at(sheet, t + 4) as usize;
-    let z = four_at(sheet, t + 8) as usize;
-    if y < x {
-        return bad;
-    }
-    if z < y {
-        return bad;
-    }
-    let rest = (z == t)
+    let t = sheet.len().checked_sub(16)?;
+    let labels = four_at(sheet, t) as usize;
+    let to_middle = four_at(sheet, t + 4) as usize;
+    let to_front = four_at(sheet, t + 8) as usize;
+    let middle = to_middle.checked_sub(labels)?;
+    let front = to_front.checked_sub(to_middle)?;
+    let rest = (to_front == t)
         & (two_at(sheet, t + 12) == 1)
         & (sheet[t + 14] == 0x53)
         & (sheet[t + 15] == letter);
-    if rest {
-        Sections {
-            good: true,
-            front: z - y,
-            middle: y - x,
-            labels: x,
-        }
-    } else {
-        bad
-    }
+    rest.then_some(Sections {
+        front,
+        middle,
+        labels,
+    })
 }
 
 // The trailer of a sheet whose sections have these many bytes.
 pub fn trailer_bytes(front: u32, middle: u32, labels: u32, letter: u8) -> [u8; 16]
     ensures { result ≡ trailer_bytes front middle labels letter }
 {
-    let x = labels as u64;
-    let y = middle as u64 + x;
-    let z = front as u64 + y;
+    let to_middle = middle as u64 + labels as u64;
+    let to_front = front as u64 + to_middle;
+    let [x0, x1, x2, x3] = labels.to_le_bytes();
+    let [y0, y1, y2, y3, ..] = to_middle.to_le_bytes();
+    let [z0, z1, z2, z3, ..] = to_front.to_le_bytes();
     [
-        (x % 256) as u8,
-        (x / 256 % 256) as u8,
-        (x / 65536 % 256) as u8,
-        (x / 16777216 % 256) as u8,
-        (y % 256) as u8,
-        (y / 256 % 256) as u8,
-        (y / 65536 % 256) as u8,
-        (y / 16777216 % 256) as u8,
-        (z % 256) as u8,
-        (z / 256 % 256) as u8,
-        (z / 65536 % 256) as u8,
-        (z / 16777216 % 256) as u8,
-        1,
-        0,
-        0x53,
-        letter,
+        x0, x1, x2, x3, y0, y1, y2, y3, z0, z1, z2, z3, 1, 0, 0x53, letter,
     ]
 }

@@ -2,7 +2,7 @@
 ghost use Rattle.std.specs.Prelude.{◌≡◌};
 ghost use Rattle.layout.specs.Write.{placed};
 
-// What writing a sheet gives: on a refusal the length is 0.
+// What writing a sheet gives, as C sees it and so with its answer as a number: on a refusal the length is 0.
 #[repr(C)]
 #[derive(Clone, Copy)]
 pub struct Wrote {
@@ -15,15 +15,7 @@ pub struct Wrote {
 pub fn put_bytes(image: &mut [u8], at: usize, from: &[u8])
     ensures { image.new ≡ placed image.old at from.now }
 {
-    if image.len() < at {
-        return;
-    }
-    if image.len() - at < from.len() {
-        return;
-    }
-    let mut j = 0;
-    while j < from.len() {
-        image[at + j] = from[j];
-        j += 1;
+    if at <= image.len() && from.len() <= image.len() - at {
+        image[at..at + from.len()].copy_from_slice(from);
     }
 }

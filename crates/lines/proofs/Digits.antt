@@ -1,19 +1,19 @@
--- The digits of a number, by induction on how many there may be: below ten there is one, else the last stands behind those of a tenth. More room changes nothing,
--- so one more digit behind a number's digits gives those of the longer number.
+-- The digits of a number: below ten there is one, else the last stands behind those of a tenth, so one more digit behind a number's digits gives those of the
+-- longer number. They are the number's decimals without leading zeros, and there are no others.
 use mathlib.Core.Path.{◌≡◌, refl, sym, ap, ap₂, ◌∙◌}
 use mathlib.Core.Bool.{Bool, true, false}
 use mathlib.Core.Logic.{◌⊎◌, inl, inr, ⊎_elim}
 use mathlib.Core.List.{List, [], ◌∷◌, ◌++◌, append-nil}
 use Prim.Native.Nat.{ℕ, zero, suc, ◌+◌, ◌-◌, ◌*◌, ◌/◌, ◌%◌, ◌^◌, ◌<◌, ◌≤◌}
 use native.Mathlib.Omega.{arith}
-use borrow.Author.Tests.{lt-ltb, ltb-true, ltb-false}
+use borrow.Author.Tests.{ltb-true, ltb-false}
 use lib.Dec.{ltb}
 use lib.ListN.{length, get_or, length-append, get_or-append}
 use lib.Seq.{get_or-append_seam, append_snoc}
-use Rattle.lines.specs.Decimals.{spelled, decimal}
+use Rattle.std.specs.Fmt.{decimal}
+use Rattle.std.proofs.lemmas.Fmt.{decimal_digit, decimal_step_wide, decimal_by_steps_wide, length-decimal-le_wide}
 use Rattle.lines.specs.Commands.{longer}
 use Rattle.lines.specs.Meaning.{said_behind, Spells}
-use Rattle.lines.proofs.Spelling.{spell_more}
 
 below_or : (a b : ℕ) → (a < b) ⊎ (b ≤ a)
 below_or a b = go (ltb a b) refl
@@ -22,28 +22,17 @@ below_or a b = go (ltb a b) refl
     go true e = inl (ltb-true a b e)
     go false e = inr (ltb-false a b e)
 
-pub spell_few : (m n : ℕ) → n < 10 → spelled (suc m) n ≡ (48 + n) ∷ []
-unfolding spelled
-spell_few m n h = rw (lt-ltb n 10 h)
-
 -- a property of numbers and digits that holds of one digit and goes on with a further one holds of what is spelled
 pub spelled_by : (Q : ℕ → List ℕ → Type 0)
     → ((n : ℕ) → n < 10 → Q n ((48 + n) ∷ []))
     → ((m d : ℕ) (xs : List ℕ) → 0 < m → d < 10 → Q m xs → Q (m * 10 + d) (xs ++ ((48 + d) ∷ [])))
-    → (f n : ℕ)
-    → n < 10 ^ suc f
-    → Q n (spelled (suc f) n)
-spelled_by Q one more zero n h = rw (spell_few 0 n h) (one n h)
-spelled_by Q one more (suc f) n h =
-    ⊎_elim
-    (λ k. rw (spell_few (suc f) n k) (one n k))
-    (λ k.
+    → (n : ℕ)
+    → n < 10 ^ 20
+    → Q n (decimal n)
+spelled_by Q one more n h =
+    decimal_by_steps_wide Q one (λ n xs k q.
     let e : n / 10 * 10 + n % 10 ≡ n = omega arith in
-    let p : 0 < n / 10 = omega arith in
-    let d : n % 10 < 10 = omega arith in
-    let q : n / 10 < 10 ^ suc f = omega arith in
-    rw (spell_more (suc f) n k) (rw e at (more (n / 10) (n % 10) (spelled (suc f) (n / 10)) p d (spelled_by Q one more f (n / 10) q))))
-    (below_or n 10)
+    rw e at (more (n / 10) (n % 10) xs (omega arith) (omega arith) q)) n (omega arith)
 
 -- ---- what is spelled are the decimals of its number
 
@@ -84,38 +73,19 @@ last_spells m d xs h l s =
         let e : k ≡ length xs = omega arith in
         rw (e, get_or-append_seam xs (48 + d) [] 0) (omega arith, omega arith)
 
-pub spelled_spells : (f n : ℕ) → n < 10 ^ suc f → Spells n (spelled (suc f) n)
+pub spelled_spells : (n : ℕ) → n < 10 ^ 20 → Spells n (decimal n)
 spelled_spells = spelled_by Spells first_spells last_spells
 
-pub spelled-length : (f n : ℕ) → length (spelled f n) ≤ f
-unfolding spelled
-spelled-length zero n = omega arith
-spelled-length (suc f) n =
-    ⊎_elim
-    (λ k. rw (spell_few f n k) (omega arith))
-    (λ k. rw (spell_more f n k, length-append (spelled f (n / 10)) ((48 + n % 10) ∷ [])) (omega (arith, spelled-length f (n / 10))))
-    (below_or n 10)
+pub decimal-length : (n : ℕ) → n < 10 ^ 20 → length (decimal n) ≤ 20
+decimal-length n h = length-decimal-le_wide 20 n (omega arith) h (omega arith)
 
 -- ---- one more digit
 
--- more room changes nothing
-wider : (f n : ℕ) → n < 10 ^ suc f → spelled (suc f) n ≡ spelled (suc (suc f)) n
-wider zero n h = spell_few 0 n h ∙ sym (spell_few 1 n h)
-wider (suc f) n h =
-    ⊎_elim
-    (λ k. spell_few (suc f) n k ∙ sym (spell_few (suc (suc f)) n k))
-    (λ k.
-    let q : n / 10 < 10 ^ suc f = omega arith in
-    spell_more (suc f) n k ∙ ap (λ xs. xs ++ ((48 + n % 10) ∷ [])) (wider f (n / 10) q) ∙ sym (spell_more (suc (suc f)) n k))
-    (below_or n 10)
-
 pub one_more_lem : (x b : ℕ) → 0 < x → 47 < b → b < 58 → longer x b < 10 ^ 20 → decimal (longer x b) ≡ decimal x ++ (b ∷ [])
 one_more_lem x b h l u s =
-    let n : 9 < longer x b = omega arith in
     let d : longer x b / 10 ≡ x = omega arith in
     let m : 48 + longer x b % 10 ≡ b = omega arith in
-    let q : x < 10 ^ 19 = omega arith in
-    spell_more 19 (longer x b) n ∙ ap₂ (λ y c. spelled 19 y ++ (c ∷ [])) d m ∙ ap (λ xs. xs ++ (b ∷ [])) (wider 18 x q)
+    decimal_step_wide (longer x b) (omega arith) (omega arith) ∙ ap₂ (λ y c. decimal y ++ (c ∷ [])) d m
 
 -- ---- there are no other decimals of it
 
@@ -156,7 +126,7 @@ alone n (b ∷ bs) h s = ⊎_elim first other (below_or 48 b)
         let p : 0 < b - 48 = omega arith in
         let u : b - 48 < 10 = omega (arith, c) in
         ap (λ x. x ∷ bs) e
-        ∙ ap (λ xs. xs ++ bs) (sym (spell_few 19 (b - 48) u))
+        ∙ ap (λ xs. xs ++ bs) (sym (decimal_digit (b - 48) u))
         ∙ more-alone (b - 48) bs p (λ k g. s.each_digit (suc k) (omega (arith, g))) (rw says h)
         ∙ ap decimal says
 
@@ -164,4 +134,4 @@ alone n (b ∷ bs) h s = ⊎_elim first other (below_or 48 b)
     other l =
         let e : b ≡ 48 = omega (arith, c) in
         let z : (n ≡ 0) × (length (b ∷ bs) ≡ 1) = s.no_zeros e in
-        ap₂ (λ x xs. x ∷ xs) e (no_more bs (omega (arith, z))) ∙ sym (spell_few 19 0 (omega arith)) ∙ ap decimal (sym z.0)
+        ap₂ (λ x xs. x ∷ xs) e (no_more bs (omega (arith, z))) ∙ sym (decimal_digit 0 (omega arith)) ∙ ap decimal (sym z.0)

@@ -5,14 +5,14 @@ use mathlib.Core.List.{List, [], ◌∷◌}
 use Prim.Native.Nat.{ℕ, ◌^◌, ◌<◌}
 use native.Mathlib.Omega.{arith}
 use Rattle.lines.specs.declared.Reading.{Reading}
-use Rattle.lines.specs.Decimals.{decimal}
+use Rattle.std.specs.Fmt.{decimal}
 use Rattle.lines.specs.Commands.{Command, feed, drain, fire, round, command_text, Small, reading, is_digit, goes_on, byte_read, bytes_read, line_read, is_command, command_read}
 use Rattle.lines.specs.Meaning.{DecimalSays, DecimalAlone, TwentySuffice, EachRead, OnlyThose, NoBytes}
-use Rattle.lines.proofs.Digits.{spelled_spells, spelled-length, alone}
+use Rattle.lines.proofs.Digits.{spelled_spells, decimal-length, alone}
 use Rattle.lines.proofs.Ways.{append_read, number_read, Letter, feeds, drains, fires, Way, start, letter, space, number, number-space, numbers, all-rules, no_way, way}
 
 pub decimal-says : DecimalSays
-decimal-says n h = (spelled_spells 19 n h, spelled-length 20 n)
+decimal-says n h = (spelled_spells n h, decimal-length n h)
 
 pub decimal-alone : DecimalAlone
 decimal-alone = alone

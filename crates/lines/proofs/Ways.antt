@@ -9,10 +9,11 @@ use lib.Dec.{eqb}
 use lib.Seq.{append_snoc}
 use Rattle.base.proofs.Tests.{and_left, and_right}
 use Rattle.lines.specs.declared.Reading.{Reading}
-use Rattle.lines.specs.Decimals.{decimal}
+use Rattle.std.specs.Fmt.{decimal}
 use Rattle.lines.specs.Commands.{reading, nothing, bad, is_digit, longer, goes_on, byte_read, bytes_read}
 use Rattle.lines.proofs.Bytes.{digit_bounds, goes_digit, goes_bounds}
-use Rattle.lines.proofs.Digits.{spell_few, spelled_by, one_more_lem}
+use Rattle.std.proofs.lemmas.Fmt.{decimal_digit}
+use Rattle.lines.proofs.Digits.{spelled_by, one_more_lem}
 
 -- ---- a text read: what is read of its front, and from there the rest
 
@@ -46,7 +47,7 @@ module _ (s : Reading) (at : ℕ → Reading) (one : (b : ℕ) → is_digit b �
       append_read s xs ((48 + d) ∷ []) ∙ ap (λ R. byte_read R (48 + d)) (r g) ∙ more m (48 + d) (goes_on_lem m d h k l) ∙ ap at e
 
   pub number_read : (n : ℕ) → n < 2 ^ 32 → bytes_read s (decimal n) ≡ at n
-  number_read n h = spelled_by Read first_read last-read 19 n (omega arith) h
+  number_read n h = spelled_by Read first_read last-read n (omega arith) h
 
 -- ---- each place, with the line that leads there
 
@@ -77,7 +78,7 @@ digit_decimal b t =
     let d : (47 < b) × (b < 58) = digit_bounds b t in
     let e : b ≡ 48 + (b - 48) = omega (arith, d) in
     let l : b - 48 < 10 = omega (arith, d) in
-    ap (λ x. x ∷ []) e ∙ sym (spell_few 19 (b - 48) l)
+    ap (λ x. x ∷ []) e ∙ sym (decimal_digit (b - 48) l)
 
 digit_small : (b : ℕ) → is_digit b ≡ true → b - 48 < 2 ^ 32
 digit_small b t = omega (arith, digit_bounds b t)

@@ -1,6 +1,6 @@
 -- What `trace` prints: the line of an answer, with a value or a count behind it, and the opening's line; and what a sheet's file counts as.
 use Rattle.std.specs.Prelude.{Bool, cond, ◌&&◌, List, [], ◌∷◌, ◌++◌, ℕ, leb}
-use Rattle.lines.specs.Decimals.{decimal}
+use Rattle.std.specs.Fmt.{decimal}
 
 abbrev pub line_end : List ℕ
 line_end = 10 ∷ []

@@ -1,6 +1,6 @@
 -- The commands of `trace` (outline, "The bench example, whole"): their texts, and a line read byte by byte.
 use Rattle.std.specs.Prelude.{Bool, cond, not, ◌&&◌, ◌||◌, List, [], ◌∷◌, ◌++◌, ℕ, ◌+◌, ◌-◌, ◌*◌, ◌^◌, ◌<◌, eqb, ltb}
-use Rattle.lines.specs.Decimals.{decimal}
+use Rattle.std.specs.Fmt.{decimal}
 use Rattle.lines.specs.declared.Reading.{Reading}
 
 -- ---- the texts: single spaces, decimals below 2^32 without leading zeros

@@ -1,4 +1,3 @@
-pub mod Decimals
 pub mod Commands
 pub mod Answers
 pub mod Meaning

@@ -1,6 +1,6 @@
 -- What the decimals of `trace` say, and which lines are its commands: exactly the commands' texts.
 use Rattle.std.specs.Prelude.{◌≡◌, true, ◌↔◌, List, [], ◌∷◌, ℕ, ◌+◌, ◌-◌, ◌*◌, ◌^◌, ◌≤◌, ◌<◌, length, get_or}
-use Rattle.lines.specs.Decimals.{decimal}
+use Rattle.std.specs.Fmt.{decimal}
 use Rattle.lines.specs.Commands.{Command, command_text, Small, line_read, is_command, command_read}
 
 -- ---- decimals

@@ -12,7 +12,7 @@ use Rattle.nets.specs.Stored.{cells_of, used_of, flags_of, held_of, counts_of}
 use Rattle.nets.proofs.Facts.{split-on}
 use Rattle.nets.proofs.Kept.{reaching}
 use Rattle.plans.specs.declared.Plan.{Plan}
-use Rattle.spots.specs.declared.Network.{Network}
+use Rattle.lanes.specs.declared.Network.{Network}
 use Rattle.spots.specs.Stores.{net_in, store_of, Given, net_of}
 
 -- b is whether there is such an input, output or rule, and a its action

@@ -3,7 +3,7 @@
 use mathlib.Core.Path.{◌≡◌, refl, sym, ap, ap₂, ◌∙◌}
 use mathlib.Core.Bool.{Bool, true, false, cond}
 use mathlib.Core.List.{[], ◌∷◌}
-use Prim.Native.Nat.{ℕ, ◌+◌, ◌-◌, ◌*◌, ◌<◌, min}
+use Prim.Native.Nat.{ℕ, ◌+◌, ◌*◌, ◌<◌, min}
 use native.Mathlib.Omega.{arith}
 use borrow.Author.Tests.{ltb-true, lt-ltb}
 use lib.Dec.{eqb, ltb}
@@ -34,7 +34,7 @@ use Rattle.nets.proofs.Stores.{head_at, used_at, drain-cells, drain-used, drain_
 use Rattle.lanes.specs.Lanes.{take_cells, take_used}
 use Rattle.plans.specs.declared.Plan.{Plan}
 use Rattle.plans.specs.Plans.{plan_of}
-use Rattle.spots.specs.declared.Network.{Network}
+use Rattle.lanes.specs.declared.Network.{Network}
 use Rattle.spots.specs.Stores.{net_in, store_of, Given, net_of}
 use Rattle.spots.proofs.Marking.{some_is}
 use Rattle.spots.proofs.Takings.{moved_same}

@@ -31,7 +31,7 @@ use Rattle.nets.proofs.Stores.{used_at, feed-cells, feed-used, feed-rest}
 use Rattle.lanes.specs.Lanes.{push_cells, push_used}
 use Rattle.plans.specs.declared.Plan.{Plan}
 use Rattle.plans.specs.Plans.{plan_of}
-use Rattle.spots.specs.declared.Network.{Network}
+use Rattle.lanes.specs.declared.Network.{Network}
 use Rattle.spots.specs.Stores.{net_in, store_of, Given, net_of}
 use Rattle.moves.specs.Moves.{feed_checked, feed_answer, feed_left}
 use Rattle.moves.specs.Meaning.{feed_entry, FeedMeans, FeedKeeps}

@@ -1,36 +1,41 @@
--- Each promise determines its result and what it leaves in the lent arrays: stated of the contracts as the source has them.
-use mathlib.Core.Path.{◌≡◌, sym, ap, ◌∙◌}
-use mathlib.Core.Bool.{cond}
-use mathlib.Core.List.{List}
-use Prim.Native.Nat.{ℕ}
-use lib.Dec.{eqb}
+-- Each promise determines its result and the network that it leaves: stated of the contracts as the source has them.
+use mathlib.Core.Path.{sym, ◌∙◌, ap}
 use Rattle.base.specs.Promises.{OneResult, OneOutcome}
-use Rattle.moves.proofs.feed_in.Kinds as feed-in-kinds
-use Rattle.moves.proofs.feed_in.Reads as feed-in
-use Rattle.moves.proofs.drain_in.Kinds as drain-in-kinds
-use Rattle.moves.proofs.drain_in.Reads as drain-in
-use Rattle.moves.proofs.tokens_in.Kinds as tokens-in-kinds
-use Rattle.moves.proofs.tokens_in.Reads as tokens-in
-use Rattle.moves.proofs.finished_in.Kinds as finished-in-kinds
-use Rattle.moves.proofs.finished_in.Reads as finished-in
+use Rattle.lanes.specs.declared.Network.{Network}
+use Rattle.refusals.proofs.Numbers.{answer-one, given-one}
+use Rattle.moves.proofs.drained_for_c.Kinds as drained-kinds
+use Rattle.moves.proofs.drained_for_c.Reads as drained
+use Rattle.moves.proofs.told_for_c.Kinds as told-kinds
+use Rattle.moves.proofs.told_for_c.Reads as told
+use Rattle.moves.proofs.feed.Kinds as feed-kinds
+use Rattle.moves.proofs.feed.Reads as feed
+use Rattle.moves.proofs.drain.Kinds as drain-kinds
+use Rattle.moves.proofs.drain.Reads as drain
+use Rattle.moves.proofs.tokens.Kinds as tokens-kinds
+use Rattle.moves.proofs.tokens.Reads as tokens
+use Rattle.moves.proofs.finished.Kinds as finished-kinds
+use Rattle.moves.proofs.finished.Reads as finished
 
--- two lists that are each one of two, by answers that are equal
-by_answer : (l l' a b : List ℕ) (r r' : ℕ) → r ≡ r' → l ≡ cond (eqb r 0) a b → l' ≡ cond (eqb r' 0) a b → l ≡ l'
-by_answer l l' a b r r' e p q = p ∙ ap (λ r. cond (eqb r 0) a b) e ∙ sym q
+pub feed_one : OneOutcome {A = Network} 2 feed-kinds.ps feed-kinds.r feed.Post (λ κs x. x.1.0.now)
+feed_one κs a r r' x x' p q = (answer-one r r' (p.0 ∙ sym q.0), p.1 ∙ sym q.1)
 
-pub feed_in_one : OneOutcome {A = List ℕ × List ℕ} 3 feed-in-kinds.ps feed-in-kinds.r feed-in.Post (λ κs x. (x.1.1.1.1.1.1.0.now, x.1.1.1.1.1.1.1.0.now))
-feed_in_one κs a r r' x x' p q =
+pub drain_one : OneOutcome {A = Network} 2 drain-kinds.ps drain-kinds.r drain.Post (λ κs x. x.1.0.now)
+drain_one κs a r r' x x' p q =
     let e = p.0 ∙ sym q.0 in
-    (e, λ i. (by_answer _ _ _ _ r r' e p.1 q.1 i, by_answer _ _ _ _ r r' e p.2 q.2 i))
+    (given-one r r' (ap (λ d. d.answer) e) (ap (λ d. d.value) e), p.1 ∙ sym q.1)
 
-pub drain_in_one : OneOutcome {A = List ℕ × List ℕ} 1 drain-in-kinds.ps drain-in-kinds.r drain-in.Post (λ κs x. (x.1.1.1.1.0.now, x.1.1.1.1.1.0.now))
-drain_in_one κs a r r' x x' p q =
-    let e = p.0 ∙ sym q.0 in
-    let f = ap (λ d. d.answer) e in
-    (e, λ i. (by_answer _ _ _ _ r.answer r'.answer f p.1 q.1 i, by_answer _ _ _ _ r.answer r'.answer f p.2 q.2 i))
+pub tokens_one : OneResult 2 tokens-kinds.ps tokens-kinds.r tokens.Post
+tokens_one κs a r r' x x' p q =
+    let e = p ∙ sym q in
+    given-one r r' (ap (λ t. t.answer) e) (ap (λ t. t.value) e)
 
-pub tokens_in_one : OneResult 1 tokens-in-kinds.ps tokens-in-kinds.r tokens-in.Post
-tokens_in_one κs a r r' x x' p q = p ∙ sym q
+pub finished_one : OneResult 2 finished-kinds.ps finished-kinds.r finished.Post
+finished_one κs a r r' x x' p q =
+    let e = p ∙ sym q in
+    given-one r r' (ap (λ t. t.answer) e) (ap (λ t. t.value) e)
 
-pub finished_in_one : OneResult 1 finished-in-kinds.ps finished-in-kinds.r finished-in.Post
-finished_in_one κs a r r' x x' p q = p ∙ sym q
+pub drained_for_c_one : OneResult 0 drained-kinds.ps drained-kinds.r drained.Post
+drained_for_c_one κs a r r' x x' p q = p ∙ sym q
+
+pub told_for_c_one : OneResult 0 told-kinds.ps told-kinds.r told.Post
+told_for_c_one κs a r r' x x' p q = p ∙ sym q

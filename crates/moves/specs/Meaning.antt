@@ -5,7 +5,7 @@ use Rattle.nets.specs.Actions.{play}
 use Rattle.nets.specs.Orders.{Entry, output_queue, asked}
 use Rattle.nets.specs.Calls.{answer_to}
 use Rattle.plans.specs.declared.Plan.{Plan}
-use Rattle.spots.specs.declared.Network.{Network}
+use Rattle.lanes.specs.declared.Network.{Network}
 use Rattle.spots.specs.Stores.{store_of, Given, net_of}
 use Rattle.moves.specs.Moves.{feed_answer, feed_left, drain_on, drain_left, told, tokens_on, finished_on}
 

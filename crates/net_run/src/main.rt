@@ -6,41 +6,27 @@
 mod change;
 mod digest;
 
-use run_text::{find, put_image, put_number, put_word, unhex};
+use net_sheet::NetRead;
+use netlist::Netlist;
+use run_text::{put_image, put_number, put_word, unhex};
 use std::io;
 use std::io::Write;
 
-// Writes the netlist into the first `room` bytes of the buffer, and prints the answer. Gives the image's length.
-fn attempt<W: Write>(
-    out: &mut W,
-    net: netlist::Netlist,
-    buffer: &mut [u8],
-    room: usize,
-) -> io::Result<usize> {
-    let end = run_text::least(room, buffer.len());
-    let w = net_sheet::write_net(net, &mut buffer[0..end]);
-    put_number(out, w.answer as u64)?;
+// Writes the netlist into the first `room` bytes of a buffer of A5, and prints what came of it. Gives the image's length.
+fn write<W: Write>(out: &mut W, net: &Netlist, room: usize, sheet: &[u8]) -> io::Result<usize> {
+    let mut buffer = [0xA5u8; 20480];
+    let end = room.min(buffer.len());
+    let w = net_sheet::write_net(net, &mut buffer[..end]);
+    put_number(out, u64::from(w.answer))?;
     put_number(out, w.place as u64)?;
     put_number(out, w.length as u64)?;
+    put_image(out, &buffer, w.length, sheet)?;
     Ok(w.length)
-}
-
-// Writes the netlist into the first `room` bytes of a buffer of A5, and prints what came of it. Gives the image's length.
-fn write<W: Write>(
-    out: &mut W,
-    net: netlist::Netlist,
-    room: usize,
-    sheet: &[u8],
-) -> io::Result<usize> {
-    let mut buffer = [0xA5u8; 20480];
-    let length = attempt(out, net, &mut buffer, room)?;
-    put_image(out, &buffer, length, sheet)?;
-    Ok(length)
 }
 
 // Writes the netlist into a buffer that is long enough; then into one of just the image's length, which is none where it is refused;
 // then into one a byte shorter.
-fn write_back<W: Write>(out: &mut W, net: netlist::Netlist, sheet: &[u8]) -> io::Result<()> {
+fn write_back<W: Write>(out: &mut W, net: &Netlist, sheet: &[u8]) -> io::Result<()> {
     put_word(out, b"write")?;
     let length = write(out, net, 20480, sheet)?;
     put_word(out, b"fit")?;
@@ -53,9 +39,9 @@ fn write_back<W: Write>(out: &mut W, net: netlist::Netlist, sheet: &[u8]) -> io:
 }
 
 // Prints the answer, its place, and the counts of the netlist that was read.
-fn put_read<W: Write>(out: &mut W, r: &net_sheet::NetRead) -> io::Result<()> {
+fn put_read<W: Write>(out: &mut W, r: &NetRead) -> io::Result<()> {
     put_word(out, b"read")?;
-    put_number(out, r.answer as u64)?;
+    put_number(out, u64::from(r.answer))?;
     put_number(out, r.place as u64)?;
     put_number(out, r.net.nodes as u64)?;
     put_number(out, r.net.outputs as u64)?;
@@ -67,17 +53,18 @@ fn put_digest<W: Write>(out: &mut W, d: digest::Digest) -> io::Result<()> {
     if d.bits == 0 {
         put_word(out, b"zeros")
     } else {
-        put_number(out, d.sum as u64)
+        put_number(out, u64::from(d.sum))
     }
 }
 
 // Reads the sheet and prints the answer, the counts and the netlist's digest. What was read is changed and written.
 fn run<W: Write>(out: &mut W, sheet: &[u8], changes: &[u8]) -> io::Result<()> {
-    let r = net_sheet::read_net(sheet);
+    let mut r = net_sheet::read_net(sheet);
     put_read(out, &r)?;
-    put_digest(out, digest::of(r.net))?;
+    put_digest(out, digest::of(&r.net))?;
     if r.answer == 0 {
-        write_back(out, change::all(r.net, changes), sheet)?;
+        change::all(&mut r.net, changes);
+        write_back(out, &r.net, sheet)?;
     }
     Ok(())
 }
@@ -86,46 +73,30 @@ fn run<W: Write>(out: &mut W, sheet: &[u8], changes: &[u8]) -> io::Result<()> {
 fn run_hex<W: Write>(out: &mut W, hex: &[u8], changes: &[u8]) -> io::Result<()> {
     let mut bytes = [0u8; 20480];
     let n = unhex(hex, &mut bytes);
-    run(out, &bytes[0..n], changes)
+    run(out, &bytes[..n], changes)
 }
 
-// The case of a line from behind its name on.
-fn run_case<W: Write>(out: &mut W, line: &[u8]) -> io::Result<()> {
-    let end = find(line, 0, b' ');
-    if end < line.len() {
-        let hex = end + 1;
-        run_hex(out, &line[hex..], &line[0..end])?;
-    }
-    Ok(())
-}
-
-// The case of a line.
+// The case of a line: its name, the changes and the sheet, as far as they are there.
 fn run_line<W: Write>(out: &mut W, line: &[u8]) -> io::Result<()> {
-    let name = find(line, 0, b' ');
-    out.write_all(&line[0..name])?;
+    let mut words = line.splitn(3, |b| *b == b' ');
+    out.write_all(words.next().unwrap_or(b""))?;
     out.write_all(b":")?;
-    if name < line.len() {
-        let from = name + 1;
-        run_case(out, &line[from..])?;
+    if let (Some(changes), Some(hex)) = (words.next(), words.next()) {
+        run_hex(out, hex, changes)?;
     }
     out.write_all(b"\n")
 }
 
-// The cases of a text, each ended by a line end.
-fn run_lines<W: Write>(out: &mut W, input: &[u8]) -> io::Result<()> {
-    let mut start = 0;
-    let mut end = find(input, 0, b'\n');
-    while end < input.len() {
-        run_line(out, &input[start..end])?;
-        start = end + 1;
-        end = find(input, start, b'\n');
-    }
-    Ok(())
-}
-
-// An error of standard input or output ends the program with it: what was printed before stands, and the cases after it are left out.
+// The cases of standard input, each ended by a line end. An error of standard input or output ends the program with it: what was printed before stands, and
+// the cases after it are left out.
 fn main(rt: HostRuntime) -> io::Result<()> {
     let mut input = [0u8; 400000];
     let n = run_text::read_full(&mut rt.stdin(), &mut input)?;
-    run_lines(&mut io::writer(&rt), &input[..n])
+    let mut out = io::writer(&rt);
+    for line in input[..n].split_inclusive(|b| *b == b'\n') {
+        if let Some(line) = line.strip_suffix(b"\n") {
+            run_line(&mut out, line)?;
+        }
+    }
+    Ok(())
 }

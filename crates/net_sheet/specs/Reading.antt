@@ -2,10 +2,11 @@
 use Rattle.std.specs.Prelude.{Bool, cond, ◌&&◌, List, ◌∷◌, ℕ, ◌+◌, ◌*◌, ◌/◌, ◌%◌, eqb, leb, length, get_or, replicate}
 use Rattle.base.specs.Bytes.{two_at, four_at}
 use Rattle.base.specs.Lists.{fill}
-use Rattle.base.specs.declared.Check.{Check}
+use Rattle.std.specs.Prelude.{Option, Some, None}
 use Rattle.base.specs.declared.Verdict.{Verdict}
 use Rattle.base.specs.Checks.{whole, verdict}
 use Rattle.codes.specs.declared.Record.{Record}
+use Rattle.layout.specs.declared.trailer.Sections.{Sections}
 use Rattle.layout.specs.Trailer.{trailer_good, front_bytes, middle_bytes, label_bytes}
 use Rattle.netlist.specs.declared.Netlist.{Netlist}
 use Rattle.netlist.specs.Netlists.{no_net}
@@ -24,6 +25,13 @@ record_at s i =
       c = two_at s (i * 12 + 6);
       k = four_at s (i * 12 + 8);
     }
+
+abbrev pub no_record : Record
+no_record = record { code = 0; width = 0; a = 0; b = 0; c = 0; k = 0 }
+
+-- the record of a number, read where the sheet has its 12 bytes, else zeros
+unfoldable pub record_there : List ℕ → ℕ → Record
+record_there s i = cond (leb (i * 12 + 12) (length s)) (record_at s i) no_record
 
 -- The netlist of a sheet whose sections have so many bytes: each list has its entries from the sheet, and zeros behind them.
 unfoldable pub net_from : List ℕ → ℕ → ℕ → ℕ → Netlist
@@ -54,7 +62,11 @@ long_enough s = leb 16 (length s)
 abbrev pub net_trailer_good : List ℕ → Bool
 net_trailer_good s = trailer_good net_letter s && eqb (middle_bytes s % 2) 0 && eqb (front_bytes s % 12) 0
 
-abbrev pub sheet_checks : List ℕ → List (ℕ × Check)
+-- the sections of a sheet whose trailer keeps to these rules
+unfoldable pub net_sections : List ℕ → Option Sections
+net_sections s = cond (long_enough s && net_trailer_good s) (Some (record { front = front_bytes s; middle = middle_bytes s; labels = label_bytes s })) None
+
+abbrev pub sheet_checks : List ℕ → List (ℕ × Option ℕ)
 sheet_checks s = (1, whole (long_enough s)) ∷ (2, whole (net_trailer_good s)) ∷ net_checks (net_of s)
 
 abbrev pub sheet_verdict : List ℕ → Verdict

@@ -1,6 +1,6 @@
 -- What the net sheet's writer gives (outline, "Numbers given back": writers check by 3 to 6, then 16).
 use Rattle.std.specs.Prelude.{cond, List, [], ◌∷◌, ◌++◌, ℕ, eqb, leb, length, drop}
-use Rattle.base.specs.declared.Check.{Check}
+use Rattle.std.specs.Prelude.{Option}
 use Rattle.base.specs.declared.Verdict.{Verdict}
 use Rattle.base.specs.Checks.{whole, verdict}
 use Rattle.netlist.specs.declared.Netlist.{Netlist}
@@ -9,7 +9,7 @@ use Rattle.layout.specs.declared.write.Wrote.{Wrote}
 use Rattle.net_sheet.specs.Image.{net_image}
 
 -- the checks for a lent image of so many bytes; 16: the sheet has room
-abbrev pub write_checks : Netlist → ℕ → List (ℕ × Check)
+abbrev pub write_checks : Netlist → ℕ → List (ℕ × Option ℕ)
 write_checks n room = net_checks n ++ ((16, whole (leb (length (net_image n)) room)) ∷ [])
 
 abbrev pub write_verdict : Netlist → ℕ → Verdict

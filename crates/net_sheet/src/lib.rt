@@ -6,5 +6,6 @@ mod put;
 mod read;
 mod write;
 
-pub use read::{NetRead, read_net};
+pub use load::record_at;
+pub use read::{NetRead, net_sections, read_net};
 pub use write::write_net;

@@ -10,9 +10,8 @@ pub fn copy_net(sheet: &[u8], image: &mut [u8]) -> layout::Wrote
     ensures { (result ≡ copied sheet.now (length image.old)) × (image.new ≡ copied_into sheet.now image.old) }
 {
     let got = net_sheet::read_net(sheet);
-    let net = got.net;
     if got.answer == 0 {
-        net_sheet::write_net(net, image)
+        net_sheet::write_net(&got.net, image)
     } else {
         layout::Wrote {
             answer: got.answer,
@@ -23,19 +22,19 @@ pub fn copy_net(sheet: &[u8], image: &mut [u8]) -> layout::Wrote
 }
 
 // Writes a netlist and reads what was written.
-pub fn reread_net(net: netlist::Netlist, image: &mut [u8]) -> net_sheet::NetRead
-    ensures { (result ≡ reread net (length image.old)) × (image.new ≡ net_written net image.old) }
+pub fn reread_net(net: &netlist::Netlist, image: &mut [u8]) -> net_sheet::NetRead
+    ensures { (result ≡ reread net.now (length image.old)) × (image.new ≡ net_written net.now image.old) }
 {
+    // That a byte is one: what is read of the netlist here is known to be of its type behind the reference too.
+    prove!(net.code[0] <= 255);
     let wrote = net_sheet::write_net(net, image);
-    let n = wrote.length;
     if wrote.answer == 0 {
-        net_sheet::read_net(&image[0..n])
+        net_sheet::read_net(&image[..wrote.length])
     } else {
-        let none = netlist::no_net();
         net_sheet::NetRead {
             answer: wrote.answer,
             place: wrote.place,
-            net: none,
+            net: netlist::no_net(),
         }
     }
 }

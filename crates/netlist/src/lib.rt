@@ -1,14 +1,13 @@
 // A netlist by value, and the checks 3 to 6 on it.
 #![tactic(auto)]
 
-ghost use Rattle.std.specs.Prelude.{◌≡◌, ℕ, ◌≤◌, length, take, ltb};
-ghost use Rattle.base.specs.Checks.{lowest, verdict};
-ghost use Rattle.codes.specs.Records.{record_good};
-ghost use Rattle.layout.specs.Labels.{label_check};
-ghost use Rattle.netlist.specs.Netlists.{net_with, no_net, record_in, output_in};
-ghost use Rattle.netlist.specs.Checks.{counts_good, numbers_good, entry_checks, net_checks};
+ghost use Rattle.std.specs.Prelude.{◌≡◌, ◌≤◌, nat_le, position};
+ghost use Rattle.base.specs.Checks.{verdict, judged};
+ghost use Rattle.netlist.specs.Netlists.{no_net, record_of};
+ghost use Rattle.netlist.specs.Checks.{numbers_good, records_check, net_checks};
 
 // What a net sheet says. Node fields are one array each, and a netlist that was read has zeros past its counts.
+// Arrays with counts beside them, since C sees them and nothing is allocated.
 #[repr(C)]
 #[derive(Clone, Copy)]
 pub struct Netlist {
@@ -44,160 +43,62 @@ pub fn no_net() -> Netlist
     }
 }
 
-// Check 4: the lowest record that breaks its rule.
-fn check_records<'x>(
-    code: &'x [u8; 1024],
-    width: &'x [u8],
-    a: &'x [u16; 1024],
-    b: &'x [u16; 1024],
-    c: &'x [u16; 1024],
-    k: &'x [u32; 1024],
-    nodes: usize,
-) -> base::Check
-    requires { (nodes ≤ 1024) × (nodes ≤ length width.now) }
-    ensures { result ≡ lowest (λ i. record_good width.now nodes i (record_in code.now width.now a.now b.now c.now k.now i)) nodes }
+// The record of node i; zeros past the last place.
+pub fn record_of(net: &Netlist, i: usize) -> codes::Record
+    ensures { result ≡ record_of net.now i }
 {
-    let mut i = 0;
-    while i < nodes {
-        let r = codes::Record {
-            code: code[i],
-            width: width[i],
-            a: a[i],
-            b: b[i],
-            c: c[i],
-            k: k[i],
-        };
-        if !codes::record_good(r, i, nodes, width) {
-            return base::Check::Bad(i);
+    if i < 1024 {
+        codes::Record {
+            code: net.code[i],
+            width: net.width[i],
+            a: net.a[i],
+            b: net.b[i],
+            c: net.c[i],
+            k: net.k[i],
         }
-        i += 1;
+    } else {
+        codes::NO_RECORD
     }
-    base::Check::Good
-}
-
-// A node number as an index.
-fn wide(x: u16) -> usize
-    ensures { result ≡ x }
-{
-    x as usize
-}
-
-// Check 5: the lowest output that names no node.
-fn check_outputs(output: &[u16; 64], outputs: usize, nodes: usize) -> base::Check
-    requires { outputs ≤ 64 }
-    ensures { result ≡ lowest (λ j. ltb (output_in output.now j) nodes) outputs }
-{
-    let mut j = 0;
-    while j < outputs {
-        if nodes <= wide(output[j]) {
-            return base::Check::Bad(j);
-        }
-        j += 1;
-    }
-    base::Check::Good
-}
-
-// Check 6, on the label bytes that count.
-fn check_front(label: &[u8], bytes: usize, nodes: usize) -> base::Check
-    requires { bytes ≤ length label.now }
-    ensures { result ≡ label_check nodes (take bytes label.now) }
-{
-    layout::check_labels(&label[..bytes], nodes)
-}
-
-// The checks 4 to 6, where check 3 is good.
-fn check_entries<'x>(
-    nodes: usize,
-    outputs: usize,
-    bytes: usize,
-    code: &'x [u8; 1024],
-    width: &'x [u8],
-    a: &'x [u16; 1024],
-    b: &'x [u16; 1024],
-    c: &'x [u16; 1024],
-    k: &'x [u32; 1024],
-    output: &'x [u16; 64],
-    label: &'x [u8],
-) -> base::Verdict
-    requires { (nodes ≤ 1024) × (outputs ≤ 64) × (nodes ≤ length width.now) × (bytes ≤ length label.now) }
-    ensures { result ≡ verdict (entry_checks (net_with nodes code.now width.now a.now b.now c.now k.now outputs output.now bytes label.now)) }
-{
-    let records = check_records(code, width, a, b, c, k, nodes);
-    if let base::Check::Bad(place) = records {
-        return base::Verdict { answer: 4, place };
-    }
-    let outs = check_outputs(output, outputs, nodes);
-    if let base::Check::Bad(place) = outs {
-        return base::Verdict { answer: 5, place };
-    }
-    let entries = check_front(label, bytes, nodes);
-    if let base::Check::Bad(place) = entries {
-        return base::Verdict { answer: 6, place };
-    }
-    base::Verdict {
-        answer: 0,
-        place: 0,
-    }
-}
-
-// Whether nodes, outputs and label bytes are within their numbers.
-fn counts_good(nodes: usize, outputs: usize, bytes: usize) -> bool
-    ensures { result ≡ counts_good nodes outputs bytes }
-{
-    (1 <= nodes) & (nodes <= 1024) & (outputs <= 64) & (bytes <= 4096)
 }
 
 // Check 3: nodes, outputs and label bytes are within their numbers.
-pub fn numbers_good(net: Netlist) -> bool
-    ensures { result ≡ numbers_good net }
+pub fn numbers_good(net: &Netlist) -> bool
+    ensures { result ≡ numbers_good net.now }
 {
-    counts_good(net.nodes, net.outputs, net.labels)
+    (1 <= net.nodes) & (net.nodes <= 1024) & (net.outputs <= 64) & (net.labels <= 4096)
 }
 
-// The checks 3 to 6 on the fields of a netlist, lent so that none is copied.
-pub fn check_net_in<'x>(
-    nodes: usize,
-    outputs: usize,
-    bytes: usize,
-    code: &'x [u8; 1024],
-    width: &'x [u8; 1024],
-    a: &'x [u16; 1024],
-    b: &'x [u16; 1024],
-    c: &'x [u16; 1024],
-    k: &'x [u32; 1024],
-    output: &'x [u16; 64],
-    label: &'x [u8; 4096],
-) -> base::Verdict
-    ensures { result ≡ verdict (net_checks (net_with nodes code.now width.now a.now b.now c.now k.now outputs output.now bytes label.now)) }
+// Check 4: the lowest record that breaks its rule.
+fn bad_record(net: &Netlist) -> Option<usize>
+    requires { net.now.nodes ≤ 1024 }
+    ensures { result ≡ records_check net.now }
 {
-    let good = counts_good(nodes, outputs, bytes);
-    if good {
-        check_entries(
-            nodes, outputs, bytes, code, width, a, b, c, k, output, label,
-        )
-    } else {
-        base::Verdict {
-            answer: 3,
-            place: 0,
+    for i in 0..net.nodes {
+        if !codes::record_good(record_of(net, i), i, net.nodes, &net.width) {
+            return Some(i);
         }
     }
+    None
+}
+
+// Check 5: the lowest output that names no node.
+fn bad_output(output: &[u16], nodes: usize) -> Option<usize>
+    ensures { result ≡ position (λ x. nat_le nodes x) output.now }
+{
+    output.iter().position(|x| nodes <= *x as usize)
 }
 
 // The checks 3 to 6.
-pub fn check_net(net: Netlist) -> base::Verdict
-    ensures { result ≡ verdict (net_checks net) }
+pub fn check_net(net: &Netlist) -> Result<(), base::Verdict>
+    ensures { result ≡ judged (verdict (net_checks net.now)) }
 {
-    check_net_in(
-        net.nodes,
-        net.outputs,
-        net.labels,
-        &net.code,
-        &net.width,
-        &net.a,
-        &net.b,
-        &net.c,
-        &net.k,
-        &net.output,
-        &net.label,
-    )
+    if !numbers_good(net) {
+        return Err(base::Verdict {
+            answer: 3,
+            place: 0,
+        });
+    }
+    base::passed(4, bad_record(net))?;
+    base::passed(5, bad_output(&net.output[..net.outputs], net.nodes))?;
+    base::passed(6, layout::check_labels(&net.label[..net.labels], net.nodes))
 }

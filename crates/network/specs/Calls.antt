@@ -4,7 +4,7 @@
 use Rattle.std.specs.Prelude.{◌≡◌, cond, ℕ, eqb, ltb, length, get_or}
 use Rattle.nets.specs.Orders.{output_queue}
 use Rattle.plans.specs.declared.Plan.{Plan}
-use Rattle.spots.specs.declared.Network.{Network}
+use Rattle.lanes.specs.declared.Network.{Network}
 use Rattle.spots.specs.Stores.{store_of, Given, net_of}
 use Rattle.moves.specs.declared.Drained.{Drained}
 use Rattle.moves.specs.declared.Told.{Told}

@@ -1,59 +1,23 @@
 // Sums over every place of a network's arrays.
-fn wide(x: u8) -> u32 {
-    x as u32
-}
+use spots::Network;
 
-fn one_if(b: bool) -> u32 {
-    if b { 1 } else { 0 }
-}
-
-fn with_bytes(start: u32, cells: &[u8]) -> u32 {
-    let mut sum = start;
-    let mut i = 0;
-    while i < cells.len() {
-        sum = run_text::sum_with(sum, wide(cells[i]));
-        i += 1;
-    }
-    sum
-}
-
-fn with_flags(start: u32, cells: &[bool]) -> u32 {
-    let mut sum = start;
-    let mut i = 0;
-    while i < cells.len() {
-        sum = run_text::sum_with(sum, one_if(cells[i]));
-        i += 1;
-    }
-    sum
-}
-
-fn with_numbers(start: u32, cells: &[u32]) -> u32 {
-    let mut sum = start;
-    let mut i = 0;
-    while i < cells.len() {
-        sum = run_text::sum_with(sum, cells[i]);
-        i += 1;
-    }
-    sum
+// The sum with the numbers of one array more. cut_run has it too: in run_text it would be public, and could promise nothing exact, since `Into` names no value.
+fn sum_all<T: Copy + Into<u32>>(start: u32, cells: &[T]) -> u32 {
+    cells
+        .iter()
+        .fold(start, |sum, x| run_text::sum_with(sum, (*x).into()))
 }
 
 // The sum over the first n numbers of a list.
 pub fn first_sum(list: &[u32], n: usize) -> u32 {
-    let end = run_text::least(n, list.len());
-    with_numbers(0, &list[0..end])
+    sum_all(0, &list[..n.min(list.len())])
 }
 
 // The sum over all arrays, one after the other.
-pub fn sum<'x>(
-    cells: &'x [u32; 8192],
-    used: &'x [u8; 512],
-    flag: &'x [bool; 512],
-    held: &'x [u32; 1024],
-    count: &'x [u32; 32],
-) -> u32 {
-    let places = with_numbers(0, cells);
-    let waiting = with_bytes(places, used);
-    let flags = with_flags(waiting, flag);
-    let registers = with_numbers(flags, held);
-    with_numbers(registers, count)
+pub fn sum(network: &Network) -> u32 {
+    let places = sum_all(0, &network.cells);
+    let waiting = sum_all(places, &network.used);
+    let flags = sum_all(waiting, &network.flag);
+    let registers = sum_all(flags, &network.held);
+    sum_all(registers, &network.count)
 }

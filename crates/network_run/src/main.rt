@@ -4,19 +4,17 @@
 // tools/network_vectors writes the cases and what is to be printed: at most 10,000 lines of at most 60,000 bytes, none of them empty.
 #![tactic(auto)]
 
-ghost use Rattle.std.specs.Prelude.{◌≤◌, IfOk, length};
-
 mod calls;
 mod cells;
 mod lists;
 mod play;
 mod words;
 
-use run_text::{find, past, put_number, put_word, read_full, unhex};
+use run_text::{find, number32, put_number, put_word, read_line, unhex};
 use std::io;
 use std::io::{Read, Write};
 
-// The case of two sheets and a limit, and its commands.
+// The case of a limit, two sheets, and commands.
 fn run_sheets<W: Write>(
     out: &mut W,
     limit: u32,
@@ -24,11 +22,11 @@ fn run_sheets<W: Write>(
     cut: &[u8],
     commands: &[u8],
 ) -> io::Result<()> {
-    let r = opens::open(net, cut, limit);
+    let mut r = opens::open(net, cut, limit);
     put_word(out, b"open")?;
-    put_number(out, r.answer as u64)?;
+    put_number(out, u64::from(r.answer))?;
     if r.answer == 0 {
-        play::all(out, &r.plan, &r.network, commands)
+        play::all(out, &r.plan, &mut r.network, commands)
     } else {
         put_number(out, r.place as u64)
     }
@@ -46,69 +44,30 @@ fn run_hex<W: Write>(
     let mut cut = [0u8; 16384];
     let n = unhex(net_hex, &mut net);
     let m = unhex(cut_hex, &mut cut);
-    run_sheets(out, limit, &net[0..n], &cut[0..m], commands)
+    run_sheets(out, limit, &net[..n], &cut[..m], commands)
 }
 
-// The case of a limit, a net sheet in hexadecimal, and the line from the cut sheet on.
-fn run_cut<W: Write>(out: &mut W, limit: u32, net_hex: &[u8], line: &[u8]) -> io::Result<()> {
-    let end = find(line, 0, b' ');
-    run_hex(out, limit, net_hex, &line[0..end], &line[end..])
-}
-
-// The case of a limit, and the line from the net sheet on.
-fn run_net<W: Write>(out: &mut W, limit: u32, line: &[u8]) -> io::Result<()> {
-    let end = find(line, 0, b' ');
-    let next = past(line, end);
-    run_cut(out, limit, &line[0..end], &line[next..])
-}
-
-// The case of a line after its name.
-fn run_case<W: Write>(out: &mut W, line: &[u8]) -> io::Result<()> {
-    let end = find(line, 0, b' ');
-    let next = past(line, end);
-    run_net(out, words::number(&line[0..end]), &line[next..])
-}
-
-// The case of a line.
+// The case of a line: what it lacks is empty.
 fn run_line<W: Write>(out: &mut W, line: &[u8]) -> io::Result<()> {
-    let end = find(line, 0, b' ');
-    let next = past(line, end);
-    out.write_all(&line[0..end])?;
+    let mut words = line.splitn(4, |b| *b == b' ');
+    out.write_all(words.next().unwrap_or(b""))?;
     out.write_all(b":")?;
-    run_case(out, &line[next..])?;
+    let limit = number32(words.next().unwrap_or(b""));
+    let net_hex = words.next().unwrap_or(b"");
+    let rest = words.next().unwrap_or(b"");
+    let end = find(rest, 0, b' ');
+    run_hex(out, limit, net_hex, &rest[..end], &rest[end..])?;
     out.write_all(b"\n")
-}
-
-// Puts the next line of the input into `line`, without its end, and gives its length: 0 where there is none. An error is the reader's
-// own: the front of the line is lost.
-fn read_line<R: Read>(input: &mut R, line: &mut [u8]) -> io::Result<usize>
-    ensures { IfOk result (λ n. n ≤ length line.new) }
-{
-    let mut n = 0;
-    while n < line.len() {
-        let end = n + 1;
-        let read = read_full(input, &mut line[n..end])?;
-        if read == 0 {
-            return Ok(n);
-        }
-        if line[n] == b'\n' {
-            return Ok(n);
-        }
-        n = end;
-    }
-    Ok(n)
 }
 
 // The cases of the input.
 fn run_lines<R: Read, W: Write>(input: &mut R, out: &mut W, line: &mut [u8]) -> io::Result<()> {
-    let mut i = 0usize;
-    while i < 10000 {
+    for _ in 0..10000 {
         let end = read_line(input, line)?;
         if end == 0 {
-            return Ok(());
+            break;
         }
-        run_line(out, &line[0..end])?;
-        i += 1;
+        run_line(out, &line[..end])?;
     }
     Ok(())
 }

@@ -1,7 +1,7 @@
 // The words of a line: numbers and commands.
 ghost use Rattle.std.specs.Prelude.{◌≤◌, ◌<◌, length};
 
-use run_text::find;
+use run_text::{find, number32, past};
 
 // A number and where its word ends.
 #[derive(Drop)]
@@ -19,20 +19,17 @@ pub struct Command {
     pub end: usize,
 }
 
-// The 32-bit number that a text of decimal digits says.
-pub fn number(decimals: &[u8]) -> u32 {
-    (run_text::number(decimals) % 4294967296) as u32
-}
-
 // The number whose word follows place i.
 fn number_after(text: &[u8], i: usize) -> Word
     requires { i ≤ length text.now }
     ensures { (i ≤ result.end) × (result.end ≤ length text.now) }
 {
-    let from = run_text::past(text, i);
+    let from = past(text, i);
     let end = find(text, from, b' ');
-    let value = number(&text[from..end]);
-    Word { value, end }
+    Word {
+        value: number32(&text[from..end]),
+        end,
+    }
 }
 
 // The letter of a word, and 0 where it is no single letter.

@@ -6,7 +6,7 @@ use Prim.Native.Nat.{ℕ}
 use native.Mathlib.Omega.{arith}
 use borrow.Author.Tests.{ne_eqb}
 use lib.Dec.{lit<, lit≤}
-use Rattle.base.specs.declared.Check.{Check}
+use Rattle.std.specs.Prelude.{Option}
 use Rattle.base.specs.declared.Verdict.{Verdict}
 use Rattle.base.specs.Checks.{whole, verdict, answered, AllGood}
 use Rattle.base.proofs.Verdicts.{all-good, good-all, verdict-bad, verdict-more, verdict-kept}
@@ -21,7 +21,7 @@ use Rattle.cut_sheet.specs.Reading.{cut_of, read_checks, read_verdict, cut_read}
 use Rattle.cut_sheet.proofs.Verdicts as cuts
 use Rattle.plans.specs.declared.Plan.{Plan}
 use Rattle.plans.specs.Plans.{plan_of}
-use Rattle.spots.specs.declared.Network.{Network}
+use Rattle.lanes.specs.declared.Network.{Network}
 use Rattle.opens.specs.declared.Opened.{Opened}
 use Rattle.opens.specs.Opening.{limit_good, limit_checks, cut_sheet_checks, open_checks, no_plan, no_network, fresh_network, plan_from, opened_by, opened}
 
@@ -35,15 +35,15 @@ opened_as plan network = record { answer = 0; place = 0; plan = plan; network = 
 -- ---- any checks
 
 module _ (P : Plan) (L : Network) where
-  pub by_bad : (cs : List (ℕ × Check)) (v : Verdict) → verdict cs ≡ v → (v.answer ≡ 0 → ⊥) → opened_by cs P L ≡ refused_as v.answer v.place
+  pub by_bad : (cs : List (ℕ × Option ℕ)) (v : Verdict) → verdict cs ≡ v → (v.answer ≡ 0 → ⊥) → opened_by cs P L ≡ refused_as v.answer v.place
   unfolding opened_by
   by_bad cs v e h = rw (e, ne_eqb v.answer 0 h)
 
-  pub by_good : (cs : List (ℕ × Check)) → AllGood cs → opened_by cs P L ≡ opened_as P L
+  pub by_good : (cs : List (ℕ × Option ℕ)) → AllGood cs → opened_by cs P L ≡ opened_as P L
   unfolding opened_by
   by_good cs g = rw (all-good cs g)
 
-  pub by_more : (cs ds : List (ℕ × Check)) → AllGood cs → opened_by (cs ++ ds) P L ≡ opened_by ds P L
+  pub by_more : (cs ds : List (ℕ × Option ℕ)) → AllGood cs → opened_by (cs ++ ds) P L ≡ opened_by ds P L
   unfolding opened_by
   by_more cs ds g = rw (verdict-more cs ds g)
 

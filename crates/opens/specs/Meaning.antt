@@ -1,6 +1,6 @@
 -- What opening means: its refusals, exactly; and where it refuses nothing, that its plan and its arrays are those of the two sheets, in the fresh state.
 use Rattle.std.specs.Prelude.{◌≡◌, ◌⊎◌, ◌↔◌, List, ℕ, ◌<◌}
-use Rattle.base.specs.declared.Check.TheVariants.{Bad}
+use Rattle.std.specs.Prelude.{Some}
 use Rattle.base.specs.Checks.{answered, found_by, AllGood, ExactAt}
 use Rattle.net_sheet.specs.Reading.{net_of}
 use Rattle.cut_sheet.specs.Reading.{cut_of}
@@ -25,7 +25,7 @@ OpenDone = (net cut : List ℕ) (limit : ℕ) → ((opened net cut limit).answer
 
 -- what check 15 finds: a cycle limit outside its numbers
 abbrev pub LimitMeans : Type 0
-LimitMeans = (net cut : List ℕ) (limit p : ℕ) → (found_by (open_checks net cut limit) 11 ≡ Bad p) ↔ (((limit ≡ 0) ⊎ (4000000000 < limit)) × (p ≡ 0))
+LimitMeans = (net cut : List ℕ) (limit p : ℕ) → (found_by (open_checks net cut limit) 11 ≡ Some p) ↔ (((limit ≡ 0) ⊎ (4000000000 < limit)) × (p ≡ 0))
 
 -- A refusal opens nothing.
 abbrev pub RefusedIsZeros : Type 0

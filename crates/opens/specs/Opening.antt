@@ -1,7 +1,7 @@
 -- Opening a network: the checks 1 to 11 on the two sheets and 15 on the cycle limit, and what is opened where all are good (outline, "Numbers given back" and
 -- "Rules of the network").
 use Rattle.std.specs.Prelude.{Bool, false, cond, ◌&&◌, List, [], ◌∷◌, ◌++◌, ℕ, eqb, leb, replicate}
-use Rattle.base.specs.declared.Check.{Check}
+use Rattle.std.specs.Prelude.{Option}
 use Rattle.base.specs.declared.Verdict.{Verdict}
 use Rattle.base.specs.Checks.{whole, verdict}
 use Rattle.netlist.specs.declared.Netlist.{Netlist}
@@ -12,22 +12,22 @@ use Rattle.cut_sheet.specs.Reading.{cut_of, frame_good}
 use Rattle.cycles.specs.Steps.{first_registers}
 use Rattle.plans.specs.declared.Plan.{Plan}
 use Rattle.plans.specs.Plans.{plan_of}
-use Rattle.spots.specs.declared.Network.{Network}
+use Rattle.lanes.specs.declared.Network.{Network}
 use Rattle.opens.specs.declared.Opened.{Opened}
 
 -- 15: the cycle limit is 1 to 4,000,000,000
 abbrev pub limit_good : ℕ → Bool
 limit_good limit = leb 1 limit && leb limit 4000000000
 
-abbrev pub limit_checks : ℕ → List (ℕ × Check)
+abbrev pub limit_checks : ℕ → List (ℕ × Option ℕ)
 limit_checks limit = (15, whole (limit_good limit)) ∷ []
 
 -- the cut sheet's 7 to 11, for a netlist
-abbrev pub cut_sheet_checks : Netlist → List ℕ → List (ℕ × Check)
+abbrev pub cut_sheet_checks : Netlist → List ℕ → List (ℕ × Option ℕ)
 cut_sheet_checks n s = (7, whole (frame_good s)) ∷ part_checks n (cut_of s)
 
 -- All checks, in the order of their numbers: 1 to 6 on the net sheet, 7 to 11 on the cut sheet for the netlist that the net sheet says, 15 on the limit.
-abbrev pub open_checks : List ℕ → List ℕ → ℕ → List (ℕ × Check)
+abbrev pub open_checks : List ℕ → List ℕ → ℕ → List (ℕ × Option ℕ)
 open_checks net cut limit = sheet_checks net ++ cut_sheet_checks (net_of net) cut ++ limit_checks limit
 
 abbrev pub open_verdict : List ℕ → List ℕ → ℕ → Verdict
@@ -85,7 +85,7 @@ abbrev pub plan_from : Netlist → List ℕ → ℕ → Plan
 plan_from n cut limit = plan_of n (cut_of cut) (found n (cut_of cut).part) limit
 
 -- what checks answer, with a plan and a network where all are good; zeros on a refusal
-unfoldable pub opened_by : List (ℕ × Check) → Plan → Network → Opened
+unfoldable pub opened_by : List (ℕ × Option ℕ) → Plan → Network → Opened
 opened_by cs plan network =
     record {
       answer = (verdict cs).answer;

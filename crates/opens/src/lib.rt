@@ -5,21 +5,26 @@ ghost use Rattle.std.specs.Prelude.{◌≡◌, ◌++◌};
 ghost use Rattle.cut_sheet.specs.Reading.{read_checks};
 ghost use Rattle.opens.specs.Opening.{no_plan, no_network, fresh_network, limit_checks, opened_by, plan_from, opened};
 
-// What opening gives: on a refusal the plan and the network are all zeros.
+use netlist::Netlist;
+use plans::Plan;
+use spots::Network;
+
+// What opening gives: on a refusal the plan and the network are all zeros. C's callers read it, so that an answer and a place stand in it, and no `Result`.
 #[repr(C)]
 #[derive(Clone, Copy)]
 pub struct Opened {
     pub answer: u32,
     pub place: usize,
-    pub plan: plans::Plan,
-    pub network: spots::Network,
+    pub plan: Plan,
+    pub network: Network,
 }
 
 // The plan of zeros, which a refusal gives.
-fn no_plan() -> plans::Plan
+#[tactic(auto, unfolding(crate::specs::Opening::no_plan))]
+fn no_plan() -> Plan
     ensures { result ≡ no_plan }
 {
-    plans::Plan {
+    Plan {
         limit: 0,
         nodes: 0,
         parts: 0,
@@ -44,10 +49,11 @@ fn no_plan() -> plans::Plan
 }
 
 // The network of zeros, flags off, which a refusal gives.
-fn no_network() -> spots::Network
+#[tactic(auto, unfolding(crate::specs::Opening::no_network))]
+fn no_network() -> Network
     ensures { result ≡ no_network }
 {
-    spots::Network {
+    Network {
         cells: [0; 8192],
         used: [0; 512],
         flag: [false; 512],
@@ -56,64 +62,34 @@ fn no_network() -> spots::Network
     }
 }
 
+// What a refusal gives.
 fn refused(answer: u32, place: usize) -> Opened
     ensures { result ≡ record { answer = answer; place = place; plan = no_plan; network = no_network } }
 {
-    let plan = no_plan();
-    let network = no_network();
     Opened {
         answer,
         place,
-        plan,
-        network,
+        plan: no_plan(),
+        network: no_network(),
     }
 }
 
 // Opens a netlist that was read: the checks 7 to 11 on the cut sheet, then 15. The network is fresh: flags off, counts 0, registers at first values, queues empty
 // and every one of the 8,192 places zero.
-fn open_cut(net: netlist::Netlist, cut: &[u8], limit: u32) -> Opened
-    ensures { result ≡ opened_by (read_checks net cut.now ++ limit_checks limit) (plan_from net cut.now limit) (fresh_network net) }
+fn open_cut(net: &Netlist, cut: &[u8], limit: u32) -> Opened
+    ensures { result ≡ opened_by (read_checks net.now cut.now ++ limit_checks limit) (plan_from net.now cut.now limit) (fresh_network net.now) }
 {
     let got = cut_sheet::read_cut(net, cut);
     if got.answer != 0 {
         return refused(got.answer, got.place);
     }
-    if !((1 <= limit) & (limit <= 4000000000)) {
+    let allowed = (1 <= limit) & (limit <= 4000000000);
+    if !allowed {
         return refused(15, 0);
     }
-    let plan = plans::make_plan_in(
-        net.nodes,
-        &net.code,
-        &net.width,
-        &net.a,
-        &net.b,
-        &net.c,
-        &net.k,
-        &got.cut.part,
-        &got.cut.depth,
-        got.queues.parts,
-        got.queues.count,
-        got.queues.inputs,
-        got.queues.channels,
-        got.queues.outputs,
-        &got.queues.node,
-        &got.queues.from,
-        &got.queues.into,
-        &got.queues.input,
-        &got.queues.a,
-        &got.queues.b,
-        &got.queues.c,
-        limit,
-    );
-    let mut held = [0u32; 1024];
-    cycles::first_registers_in(net.nodes, &net.code, &net.k, &mut held);
-    let network = spots::Network {
-        cells: [0; 8192],
-        used: [0; 512],
-        flag: [false; 512],
-        held,
-        count: [0; 32],
-    };
+    let plan = plans::make_plan(net, &got.cut, &got.queues, limit);
+    let mut network = no_network();
+    cycles::first_registers(net, &mut network.held);
     Opened {
         answer: 0,
         place: 0,
@@ -130,5 +106,5 @@ pub fn open(net: &[u8], cut: &[u8], limit: u32) -> Opened
     if read.answer != 0 {
         return refused(read.answer, read.place);
     }
-    open_cut(read.net, cut, limit)
+    open_cut(&read.net, cut, limit)
 }

@@ -1,3 +1,3 @@
 pub mod Turns
-pub mod One
 pub mod Ordering
+pub mod One

@@ -22,7 +22,7 @@ use Rattle.nets.proofs.Goods.{good}
 use Rattle.nets.proofs.Kept.{reaching}
 use Rattle.nets.proofs.Orders.{order-drained, order-drains}
 use Rattle.plans.specs.declared.Plan.{Plan}
-use Rattle.spots.specs.declared.Network.{Network}
+use Rattle.lanes.specs.declared.Network.{Network}
 use Rattle.spots.specs.Stores.{store_of, Given, net_of}
 use Rattle.moves.specs.Meaning.{drain_entry, fire_entry, answer_of, state_after}
 use Rattle.moves.proofs.Feeding.{feed_means}

@@ -1,33 +1,41 @@
 -- An order's loops and checks: a turn counts an entry and what it did, and the code's tests are those of the definitions.
 use mathlib.Core.Path.{◌≡◌, refl, sym, ◌∙◌, ap, ap₂}
 use mathlib.Core.Bool.{Bool, true, false, cond, not, ◌&&◌}
-use mathlib.Core.List.{List}
-use Prim.Native.Nat.{ℕ, zero, suc, ◌+◌, ◌<◌, ◌≤◌}
+use mathlib.Core.List.{List, [], ◌∷◌}
+use Prim.Native.Nat.{ℕ, zero, suc, ◌+◌, ◌-◌, ◌^◌, ◌<◌, ◌≤◌}
 use native.Mathlib.Numerals.{add-one}
 use native.Mathlib.Omega.{arith}
-use borrow.Author.Tests.{lt-ltb, le-ltb, eqb-true, ltb-false, not-true}
+use borrow.Author.Tests.{lt-ltb, le-ltb, eqb-true, ltb-false, not-true, ne_eqb}
 use lib.Dec.{eqb, ltb}
 use lib.ListN.{length, get_or, set, length-set}
+use Rattle.std.specs.List.{filter}
 use Rattle.base.specs.Checks.{verdict}
 use Rattle.base.proofs.Tests.{and_left, and_right}
 use Rattle.nets.specs.Lists.{bit}
 use Rattle.nets.specs.Orders.{Entry, entry_at, drains_asked}
 use Rattle.plans.specs.declared.Plan.{Plan}
-use Rattle.spots.specs.declared.Network.{Network}
-use Rattle.spots.specs.Stores.{net_in}
-use Rattle.lanes.specs.Lanes.{push_cells, push_used, take_cells, take_used}
-use Rattle.moves.specs.declared.Drained.{Drained}
-use Rattle.moves.specs.Moves.{Fed, Took, feed_left, output_on, drain_left}
-use Rattle.rounds.specs.Fires.{Fired}
-use Rattle.orders.specs.declared.Acted.{Acted}
-use Rattle.orders.specs.Orders.{entry_of, ActOn, act_on, Acts, PlayedOn, playing, done_as, tried_on, order_on, order_checked, order_answer}
+use Rattle.lanes.specs.declared.Network.{Network}
+use Rattle.orders.specs.declared.Played.{Played}
+use Rattle.orders.specs.Orders.{ActOn, act_on, PlayedOn, playing, done_as, tried_on, grown, Tried, order_on, order_checked, order_answer, refused_order, OrderPromise}
 
 -- ---- the drains asked for
 
-pub drains-turn : (kinds indexes values : List ℕ) (t found one : ℕ) → found ≡ drains_asked (entry_at kinds indexes values) t → one ≡ cond (eqb (get_or kinds t 0) 1) 1 0
-    → found + one ≡ drains_asked (entry_at kinds indexes values) (t + 1)
+drains-front : (e : ℕ → Entry) (n : ℕ) → drains_asked e (suc n) ≡ bit (eqb (e 0).kind 1) + drains_asked (λ t. e (suc t)) n
 unfolding drains_asked
-drains-turn kinds indexes values t found one h o = rw (add-one t, h, o)
+drains-front e zero = omega arith
+drains-front e (suc n) = ap (λ x. x + bit (eqb (e (suc n)).kind 1)) (drains-front e n) ∙ omega arith
+
+-- the entries of kind 1 of a list, whatever tells an entry's kind
+pub drains-counted : {A : Type 0} (kind : A → ℕ) (none : A) (xs : List A) (e : ℕ → Entry) → ((t : ℕ) → (e t).kind ≡ kind (get_or xs t none))
+    → length (filter (λ x. eqb (kind x) 1) xs) ≡ drains_asked e (length xs)
+unfolding drains_asked
+drains-counted kind none [] e h = refl
+drains-counted kind none (x ∷ xs) e h =
+    one (eqb (kind x) 1) ∙ ap₂ (λ a n. bit (eqb a 1) + n) (sym (h 0)) (drains-counted kind none xs (λ t. e (suc t)) (λ t. h (suc t))) ∙ sym (drains-front e (length xs))
+  where
+    one : (b : Bool) → length (cond b (x ∷ filter (λ x. eqb (kind x) 1) xs) (filter (λ x. eqb (kind x) 1) xs)) ≡ bit b + length (filter (λ x. eqb (kind x) 1) xs)
+    one true = omega arith
+    one false = omega arith
 
 -- ---- whether an order is played
 
@@ -80,73 +88,57 @@ module _ (kinds indexes values : List ℕ) (places : ℕ) where
 same-playing : {L M : Network} {a b d e f g : ℕ} {x y : List ℕ} → L ≡ M → a ≡ b → d ≡ e → f ≡ g → x ≡ y → playing L a d f x ≡ playing M b e g y
 same-playing u v w x y = λ i. playing (u i) (v i) (w i) (x i) (y i)
 
+bit-small : (b : Bool) → bit b ≤ 1
+bit-small true = omega arith
+bit-small false = omega arith
+
 module _ (P : Plan) (L : Network) (e : ℕ → Entry) (lent : List ℕ) where
-  pub order-turn : (t : ℕ) (T : PlayedOn) (r : Acted) (M : Network) (x y z : ℕ) (lent' : List ℕ) → T ≡ order_on P L e lent t → Acts P T.network (e t) r M
-      → lent' ≡ cond (eqb r.answer 0 && eqb (e t).kind 1) (set T.lent T.drains r.value) T.lent
-      → x ≡ cond (eqb r.answer 0 && eqb (e t).kind 0) 1 0
-      → y ≡ cond (eqb r.answer 0 && eqb (e t).kind 1) 1 0
-      → z ≡ cond (eqb r.answer 0 && eqb (e t).kind 2) 1 0
-      → playing M (T.feeds + x) (T.drains + y) (T.firings + z) lent' ≡ order_on P L e lent (t + 1)
+  -- what is done so far is what the first t entries do
+  abbrev pub Plays : ℕ → Played → Network → List ℕ → Type 0
+  Plays t p M zs =
+      (p.answer ≡ 0)
+      × (p.feeds ≤ t)
+      × (p.drains ≤ t)
+      × (p.firings ≤ t)
+      × (playing M p.feeds p.drains p.firings zs ≡ order_on P L e lent t)
+
+  pub plays-first : (p : Played) → p ≡ refused_order 0 → Plays 0 p L lent
   unfolding order_on
-  order-turn t T r M x y z lent' h a s u v w =
-      let n : ℕ → ℕ → ℕ = λ k b. bit (eqb b 0 && eqb (e t).kind k) in
-      same-playing a.2 (ap (λ b. T.feeds + b) (u ∙ ap (n 0) a.0)) (ap (λ b. T.drains + b) (v ∙ ap (n 1) a.0)) (ap (λ b. T.firings + b) (w ∙ ap (n 2) a.0))
-      (s ∙ ap₂ (λ b v. cond (eqb b 0 && eqb (e t).kind 1) (set T.lent T.drains v) T.lent) a.0 a.1)
-      ∙ ap (λ U. tried_on U (e t) (act_on P U.network (e t))) h
-      ∙ sym (ap (order_on P L e lent) (add-one t))
+  plays-first p h = rw h (refl, omega arith, omega arith, omega arith, refl)
 
-  stored-long : (b : Bool) (l : List ℕ) (k x : ℕ) → length (cond b (set l k x) l) ≡ length l
-  stored-long true l k x = length-set l k x
-  stored-long false l k x = refl
+  -- a count that can still grow
+  grows : (b : Bool) (n r t : ℕ) → n ≤ t → t < 2 ^ 64 - 1 → r ≡ grown b n → r ≡ n + bit b
+  grows b n r t h l e = let s = bit-small b in omega (arith, e)
 
-  -- the lent list keeps its length
-  pub lent-long : (t : ℕ) → length (order_on P L e lent t).lent ≡ length lent
+  pub plays-next : (t : ℕ) (p : Played) (M : Network) (zs : List ℕ) (r : Played) (M' : Network) (zs' : List ℕ) → t < 2 ^ 64 - 1 → Plays t p M zs
+      → Tried P M zs p (e t) r M' zs'
+      → Plays (t + 1) r M' zs'
   unfolding order_on
-  lent-long zero = refl
-  lent-long (suc t) =
-      let T : PlayedOn = order_on P L e lent t in
-      let a : ActOn = act_on P T.network (e t) in
-      stored-long (done_as 1 (e t) a) T.lent T.drains a.value ∙ lent-long t
+  plays-next t p M zs r M' zs' l h s =
+      let a : ActOn = act_on P M (e t) in
+      let x = grows (done_as 0 (e t) a) p.feeds r.feeds t h.1 l s.1 in
+      let y = grows (done_as 1 (e t) a) p.drains r.drains t h.2 l s.2 in
+      let z = grows (done_as 2 (e t) a) p.firings r.firings t h.3 l s.3 in (
+        s.0 ∙ h.0,
+        omega (arith, x, h.1, bit-small (done_as 0 (e t) a)),
+        omega (arith, y, h.2, bit-small (done_as 1 (e t) a)),
+        omega (arith, z, h.3, bit-small (done_as 2 (e t) a)),
+        same-playing s.4 x y z s.5
+            ∙ ap (λ U. tried_on U (e t) (act_on P U.network (e t))) h.4
+            ∙ sym (ap (order_on P L e lent) (add-one t)),
+      )
 
--- ---- one entry, by its kind
+-- ---- the whole order, by its answer
 
-module _ (P : Plan) (L : Network) where
-  -- a new queue store under a test, the rest as it was
-  left_on : (b : Bool) (cells used cells' used' : List ℕ) → cells' ≡ cond b cells L.cells → used' ≡ cond b used L.used
-      → net_in cells' used' L.flag L.held L.count ≡ cond b (net_in cells used L.flag L.held L.count) L
-  left_on true cells used cells' used' u v = ap₂ (λ x y. net_in x y L.flag L.held L.count) u v
-  left_on false cells used cells' used' u v = ap₂ (λ x y. net_in x y L.flag L.held L.count) u v
+module _ (P : Plan) (L : Network) (kinds indexes values lent : List ℕ) where
+  abbrev answer : ℕ
+  answer = order_answer kinds indexes values (length lent)
 
-  feed_leaves : (j x r : ℕ) (cells' used' : List ℕ) → Fed P.inputs P.width P.node P.depth j x L.cells L.used r cells' used'
-      → net_in cells' used' L.flag L.held L.count ≡ feed_left P L j x
-  unfolding feed_left
-  feed_leaves j x r cells' used' h =
-      left_on (eqb r 0) (push_cells L.cells L.used j x) (push_used L.used j) cells' used' h.1 h.2
-      ∙ ap (λ a. cond (eqb a 0) (net_in (push_cells L.cells L.used j x) (push_used L.used j) L.flag L.held L.count) L) h.0
+  pub order-refused : (p : Played) → p ≡ refused_order answer → (answer ≡ 0 → ⊥) → OrderPromise P L kinds indexes values lent p L lent
+  order-refused p h z = rw (ne_eqb answer 0 z) (h, refl, refl)
 
-  drain_leaves : (j : ℕ) (r : Drained) (cells' used' : List ℕ) → Took (output_on P j) L.cells L.used r cells' used'
-      → net_in cells' used' L.flag L.held L.count ≡ drain_left P L j
-  unfolding drain_left
-  drain_leaves j r cells' used' h =
-      left_on (eqb r.answer 0) (take_cells L.cells (output_on P j)) (take_used L.used (output_on P j)) cells' used' h.1 h.2
-      ∙ ap (λ a. cond (eqb a.answer 0) (net_in (take_cells L.cells (output_on P j)) (take_used L.used (output_on P j)) L.flag L.held L.count) L) h.0
-
-  module _ (kind index value : ℕ) where
-    pub act_feed : (r : ℕ) (cells' used' : List ℕ) → kind ≡ 0
-        → Fed P.inputs P.width P.node P.depth index value L.cells L.used r cells' used'
-        → Acts P L (entry_of kind index value) (record { answer = r; value = 0 }) (net_in cells' used' L.flag L.held L.count)
-    unfolding act_on
-    act_feed r cells' used' k h = rw k (h.0, refl, feed_leaves index value r cells' used' h)
-
-    pub act_drain : (r : Drained) (cells' used' : List ℕ) → kind ≡ 1 → Took (output_on P index) L.cells L.used r cells' used'
-        → Acts P L (entry_of kind index value) (record { answer = r.answer; value = r.value }) (net_in cells' used' L.flag L.held L.count)
-    unfolding act_on
-    act_drain r cells' used' k h = rw k (ap (λ d. d.answer) h.0, ap (λ d. d.value) h.0, drain_leaves index r cells' used' h)
-
-    pub act_fire : (r : ℕ) (M : Network) → kind ≡ 2 → Fired P L index r M → Acts P L (entry_of kind index value) (record { answer = r; value = 0 }) M
-    unfolding act_on
-    act_fire r M k h = rw k (h.0, refl, h.1)
-
-    pub act_other : eqb kind 0 ≡ false → eqb kind 1 ≡ false → eqb kind 2 ≡ false → Acts P L (entry_of kind index value) (record { answer = 12; value = 0 }) L
-    unfolding act_on
-    act_other a b d = rw (a, b, d) (refl, refl, refl)
+  pub order-played : (n : ℕ) (p : Played) (M : Network) (zs : List ℕ) → n ≡ length kinds → answer ≡ 0 → Plays P L (entry_at kinds indexes values) lent n p M zs
+      → OrderPromise P L kinds indexes values lent p M zs
+  order-played n p M zs m z h =
+      let g = h.4 ∙ ap (order_on P L (entry_at kinds indexes values) lent) m in
+      rw z (λ i. record { answer = h.0 i; feeds = (g i).feeds; drains = (g i).drains; firings = (g i).firings }, ap (λ T. T.network) g, ap (λ T. T.lent) g)

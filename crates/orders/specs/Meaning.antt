@@ -2,7 +2,7 @@
 use Rattle.std.specs.Prelude.{◌≡◌, List, ◌++◌, ℕ, ◌≤◌, length, drop}
 use Rattle.nets.specs.Orders.{Entry, Played, order, drains_asked}
 use Rattle.plans.specs.declared.Plan.{Plan}
-use Rattle.spots.specs.declared.Network.{Network}
+use Rattle.lanes.specs.declared.Network.{Network}
 use Rattle.spots.specs.Stores.{store_of, Given, net_of}
 use Rattle.moves.specs.Meaning.{GivenAgain}
 use Rattle.orders.specs.Orders.{order_on}

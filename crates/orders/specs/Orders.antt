@@ -1,14 +1,15 @@
 -- Orders on a network's arrays: each entry a feed, a drain or a fire by its kind, one after the other, with the values drained so far (outline, "Rules of the
 -- network", "Numbers given back"). What that is in the outline's words, for a network that earlier calls gave, is stated in Meaning.
-use Rattle.std.specs.Prelude.{◌≡◌, Bool, cond, not, ◌&&◌, List, [], ◌∷◌, ℕ, zero, suc, ◌+◌, eqb, ltb, length, set}
+use Rattle.std.specs.Prelude.{◌≡◌, Bool, cond, not, ◌&&◌, List, [], ◌∷◌, ℕ, zero, suc, ◌+◌, ◌-◌, ◌^◌, min, eqb, ltb, length, set, Result}
 use Rattle.base.specs.Checks.{whole, verdict}
 use Rattle.nets.specs.Lists.{bit}
 use Rattle.nets.specs.Orders.{Entry, entry_at, drains_asked}
 use Rattle.plans.specs.declared.Plan.{Plan}
-use Rattle.spots.specs.declared.Network.{Network}
+use Rattle.lanes.specs.declared.Network.{Network}
+use Rattle.refusals.specs.declared.Refusal.{Refusal}
+use Rattle.refusals.specs.Numbers.{answered, valued}
 use Rattle.moves.specs.Moves.{feed_answer, feed_left, drain_on, drain_left}
 use Rattle.rounds.specs.Fires.{fire_answer, fire_left}
-use Rattle.orders.specs.declared.Acted.{Acted}
 use Rattle.orders.specs.declared.Played.{Played}
 
 -- ---- one entry
@@ -32,8 +33,9 @@ act_on P L e =
     (cond (eqb e.kind 1) (acted (drain_on P L e.index).answer (drain_on P L e.index).value (drain_left P L e.index))
     (cond (eqb e.kind 2) (acted (fire_answer P L e.index) 0 (fire_left P L e.index)) (acted 12 0 L)))
 
-abbrev pub Acts : Plan → Network → Entry → Acted → Network → Type 0
-Acts P L e r M = (r.answer ≡ (act_on P L e).answer) × (r.value ≡ (act_on P L e).value) × (M ≡ (act_on P L e).network)
+-- what trying it promises: that answer and that value, and the network afterwards
+abbrev pub Acts : Plan → Network → Entry → Result ℕ Refusal → Network → Type 0
+Acts P L e r M = (answered r ≡ (act_on P L e).answer) × (valued r ≡ (act_on P L e).value) × (M ≡ (act_on P L e).network)
 
 -- ---- entry after entry
 
@@ -57,6 +59,20 @@ abbrev pub tried_on : PlayedOn → Entry → ActOn → PlayedOn
 tried_on t e a =
     playing a.network (t.feeds + bit (done_as 0 e a)) (t.drains + bit (done_as 1 e a)) (t.firings + bit (done_as 2 e a))
     (cond (done_as 1 e a) (set t.lent t.drains a.value) t.lent)
+
+-- a count after an entry, as a word holds it
+abbrev pub grown : Bool → ℕ → ℕ
+grown b n = min (n + bit b) (2 ^ 64 - 1)
+
+-- what trying one entry promises, from the counts p
+abbrev pub Tried : Plan → Network → List ℕ → Played → Entry → Played → Network → List ℕ → Type 0
+Tried P L lent p e r M lent' =
+    (r.answer ≡ p.answer)
+    × (r.feeds ≡ grown (done_as 0 e (act_on P L e)) p.feeds)
+    × (r.drains ≡ grown (done_as 1 e (act_on P L e)) p.drains)
+    × (r.firings ≡ grown (done_as 2 e (act_on P L e)) p.firings)
+    × (M ≡ (act_on P L e).network)
+    × (lent' ≡ cond (done_as 1 e (act_on P L e)) (set lent p.drains (act_on P L e).value) lent)
 
 -- the first n entries of an order
 unfoldable pub order_on : Plan → Network → (ℕ → Entry) → List ℕ → ℕ → PlayedOn

@@ -1,12 +1,15 @@
-// Orders on a network's lent arrays: three lists of kinds, indexes and values, played entry by entry.
+// Orders on a network: three lists of kinds, indexes and values, as C lends them, played entry by entry.
 #![tactic(auto)]
 
-ghost use Rattle.std.specs.Prelude.{◌≡◌, cond, List, ℕ, ◌≤◌, length, set};
-ghost use Rattle.nets.specs.Orders.{entry_at, drains_asked};
-ghost use Rattle.spots.specs.Stores.{net_in, plan_in};
-ghost use Rattle.orders.specs.Orders.{entry_of, Acts, order_answer, refused_order, OrderPromise};
+ghost use Rattle.std.specs.Prelude.{◌≡◌, eqb, filter, length};
+ghost use Rattle.refusals.specs.Numbers.{answer, answered, valued};
+ghost use Rattle.orders.specs.Orders.{entry_of, Acts, Tried, order_answer, OrderPromise};
 
-// What an order gives: the counts of feeds, drains and firings done.
+use plans::Plan;
+use refusals::Refusal;
+use spots::Network;
+
+// What an order gives: the counts of feeds, drains and firings done. C's callers read it, so that its answer is a number of the outline's table and no `Result`.
 #[repr(C)]
 #[derive(Clone, Copy)]
 pub struct Played {
@@ -16,185 +19,105 @@ pub struct Played {
     pub firings: usize,
 }
 
-// What an entry gives: its answer, and the value where it is a drain that is done, else 0.
-#[derive(Clone, Copy)]
-pub struct Acted {
-    pub answer: u32,
-    pub value: u32,
-}
-
-// 1 where a test holds.
-fn one_if(b: bool) -> usize
-    ensures { (result ≡ cond b 1 0) × (result ≤ 1) }
+// What a feed or a fire gives as an entry: value 0 where it is done.
+fn with_no_value(called: Result<(), Refusal>) -> Result<u32, Refusal>
+    ensures { (answered result ≡ answer called) × (valued result ≡ 0) }
 {
-    if b { 1 } else { 0 }
+    called.map(|()| 0)
 }
 
-// How many entries are drains.
-fn count_drains(kinds: &[u32]) -> usize
-    ensures { (indexes values : List ℕ) → result ≡ drains_asked (entry_at kinds.now indexes values) (length kinds.now) }
-{
-    let mut t = 0;
-    let mut found = 0;
-    while t < kinds.len() {
-        found += one_if(kinds[t] == 1);
-        t += 1;
-    }
-    found
-}
-
-// Whether an order is played: 12 where its lists have not one length, 16 where it has more drains than there are places for them.
-fn order_asked(kinds: &[u32], indexes: &[u32], values: &[u32], places: usize) -> u32
-    ensures { result ≡ order_answer kinds.now indexes.now values.now places }
-{
-    if (kinds.len() == indexes.len()) & (kinds.len() == values.len()) {
-        if count_drains(kinds) <= places { 0 } else { 16 }
-    } else {
-        12
-    }
-}
-
-// An order that is refused: nothing is done.
-fn refused(answer: u32) -> Played
-    ensures { result ≡ refused_order answer }
-{
-    Played {
-        answer,
-        feeds: 0,
-        drains: 0,
-        firings: 0,
-    }
-}
-
-// Stores a value at a place of a list, where it is wanted and there is such a place.
-fn store_if(wanted: bool, place: usize, value: u32, list: &mut [u32])
-    ensures { list.new ≡ cond wanted (set list.old place value) list.old }
-{
-    if wanted {
-        if place < list.len() {
-            list[place] = value;
-        }
-    }
-}
-
-// Tries one entry: a feed, a drain or a fire by its kind; 12 for another.
-pub fn act_in<'x>(
-    code: &'x [u8; 1024],
-    width: &'x [u8; 1024],
-    join: &'x [u8; 1024],
-    k: &'x [u32; 1024],
-    ra: &'x [u16; 1024],
-    rb: &'x [u16; 1024],
-    rc: &'x [u16; 1024],
-    part: &'x [u8; 1024],
-    node: &'x [u16; 512],
-    from: &'x [u8; 512],
-    into: &'x [u8; 512],
-    depth: &'x [u8; 512],
-    limit: u32,
-    nodes: usize,
-    parts: usize,
-    inputs: usize,
-    channels: usize,
-    outputs: usize,
-    queues: usize,
+// Tries one entry: a feed, a drain or a fire by its kind; another kind is refused. Its value is that of a drain that is done, else 0. Kinds are numbers: C callers may
+// write any number into an order's lists.
+pub fn act(
+    plan: &Plan,
+    network: &mut Network,
     kind: u32,
     index: u32,
     value: u32,
-    cells: &mut [u32; 8192],
-    used: &mut [u8; 512],
-    flag: &mut [bool; 512],
-    held: &mut [u32; 1024],
-    count: &mut [u32; 32],
-) -> Acted
-    ensures { (rules : ℕ) → Acts (plan_in limit nodes parts inputs channels outputs queues rules code.now width.now join.now k.now ra.now rb.now rc.now part.now node.now from.now into.now depth.now) (net_in cells.old used.old flag.old held.old count.old) (entry_of kind index value) result (net_in cells.new used.new flag.new held.new count.new) }
+) -> Result<u32, Refusal>
+    ensures { Acts plan.now network.old (entry_of kind index value) result network.new }
 {
     match kind {
-        0 => {
-            let answer = moves::feed_in(width, node, depth, inputs, index, value, cells, used);
-            Acted { answer, value: 0 }
-        }
-        1 => {
-            let got = moves::drain_in(inputs, channels, outputs, index, cells, used);
-            Acted {
-                answer: got.answer,
-                value: got.value,
+        0 => with_no_value(moves::feed(plan, network, index, value)),
+        1 => moves::drain(plan, network, index),
+        2 => with_no_value(rounds::fire(plan, network, index)),
+        _ => Err(Refusal::NoSuch),
+    }
+}
+
+impl Played {
+    // Tries one entry, and counts it where it is done; the largest number stays. A drained value goes to `drained` behind those before it, where it has such a
+    // place.
+    pub fn play(
+        &mut self,
+        plan: &Plan,
+        network: &mut Network,
+        kind: u32,
+        index: u32,
+        value: u32,
+        drained: &mut [u32],
+    )
+        ensures { Tried plan.now network.old drained.old self.old (entry_of kind index value) self.new network.new drained.new }
+    {
+        match (kind, act(plan, network, kind, index, value)) {
+            (0, Ok(_)) => self.feeds = self.feeds.saturating_add(1),
+            (1, Ok(got)) => {
+                if self.drains < drained.len() {
+                    drained[self.drains] = got;
+                }
+                self.drains = self.drains.saturating_add(1);
             }
+            (2, Ok(_)) => self.firings = self.firings.saturating_add(1),
+            _ => {}
         }
-        2 => {
-            let answer = rounds::fire_in(
-                code, width, join, k, ra, rb, rc, part, node, from, into, depth, limit, nodes,
-                parts, inputs, channels, queues, index, cells, used, flag, held, count,
-            );
-            Acted { answer, value: 0 }
-        }
-        _ => Acted {
-            answer: 12,
-            value: 0,
-        },
+    }
+}
+
+// How many entries are drains. Written in place, the check doesn't find what it counts.
+fn count_drains(kinds: &[u32]) -> usize
+    ensures { result ≡ length (filter (λ kind. eqb kind 1) kinds.now) }
+{
+    kinds.iter().filter(|kind| **kind == 1).count()
+}
+
+// Whether an order is played: refused where its lists have not one length, and where it has more drains than there are places for them.
+fn order_asked(kinds: &[u32], indexes: &[u32], values: &[u32], places: usize) -> Result<(), Refusal>
+    ensures { answer result ≡ order_answer kinds.now indexes.now values.now places }
+{
+    let even = (kinds.len() == indexes.len()) & (kinds.len() == values.len());
+    if !even {
+        return Err(Refusal::NoSuch);
+    }
+    if count_drains(kinds) <= places {
+        Ok(())
+    } else {
+        Err(Refusal::NoRoom)
     }
 }
 
 // Plays an order: each entry in turn, of which a refused one changes nothing. Drained values go to `drained` from its start. A refused order changes nothing:
 // 12 where its lists have not one length, 16 where it has more drains than `drained` has places.
-pub fn order_in<'x>(
-    code: &'x [u8; 1024],
-    width: &'x [u8; 1024],
-    join: &'x [u8; 1024],
-    k: &'x [u32; 1024],
-    ra: &'x [u16; 1024],
-    rb: &'x [u16; 1024],
-    rc: &'x [u16; 1024],
-    part: &'x [u8; 1024],
-    node: &'x [u16; 512],
-    from: &'x [u8; 512],
-    into: &'x [u8; 512],
-    depth: &'x [u8; 512],
-    limit: u32,
-    nodes: usize,
-    parts: usize,
-    inputs: usize,
-    channels: usize,
-    outputs: usize,
-    queues: usize,
+pub fn order(
+    plan: &Plan,
+    network: &mut Network,
     kinds: &[u32],
     indexes: &[u32],
     values: &[u32],
     drained: &mut [u32],
-    cells: &mut [u32; 8192],
-    used: &mut [u8; 512],
-    flag: &mut [bool; 512],
-    held: &mut [u32; 1024],
-    count: &mut [u32; 32],
 ) -> Played
-    ensures { (rules : ℕ) → OrderPromise (plan_in limit nodes parts inputs channels outputs queues rules code.now width.now join.now k.now ra.now rb.now rc.now part.now node.now from.now into.now depth.now) (net_in cells.old used.old flag.old held.old count.old) kinds.now indexes.now values.now drained.old result (net_in cells.new used.new flag.new held.new count.new) drained.new }
+    ensures { OrderPromise plan.now network.old kinds.now indexes.now values.now drained.old result network.new drained.new }
 {
-    let answer = order_asked(kinds, indexes, values, drained.len());
-    if answer != 0 {
-        return refused(answer);
+    let mut played = Played {
+        answer: refusals::answer(order_asked(kinds, indexes, values, drained.len())),
+        feeds: 0,
+        drains: 0,
+        firings: 0,
+    };
+    if played.answer != 0 {
+        return played;
     }
-    let mut t = 0;
-    let mut feeds = 0;
-    let mut drains = 0;
-    let mut firings = 0;
-    while t < kinds.len() {
-        let kind = kinds[t];
-        let got = act_in(
-            code, width, join, k, ra, rb, rc, part, node, from, into, depth, limit, nodes, parts,
-            inputs, channels, outputs, queues, kind, indexes[t], values[t], cells, used, flag,
-            held, count,
-        );
-        let done = got.answer == 0;
-        store_if(done & (kind == 1), drains, got.value, drained);
-        feeds += one_if(done & (kind == 0));
-        drains += one_if(done & (kind == 1));
-        firings += one_if(done & (kind == 2));
-        t += 1;
+    for t in 0..kinds.len() {
+        played.play(plan, network, kinds[t], indexes[t], values[t], drained);
     }
-    Played {
-        answer: 0,
-        feeds,
-        drains,
-        firings,
-    }
+    played
 }

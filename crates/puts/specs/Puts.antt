@@ -2,7 +2,10 @@
 -- rules, tried in turn (spots/proofs/Phases).
 use Rattle.std.specs.Prelude.{◌≡◌, Bool, true, false, cond, not, ◌&&◌, List, ℕ, zero, suc, ◌+◌, ◌-◌, ◌*◌, ◌%◌, min, max, ltb, get_or, set}
 use Rattle.lanes.specs.Lanes.{push_cells, push_used}
-use Rattle.evals.specs.Passes.{Fields, vals_after, mets_after}
+use Rattle.plans.specs.declared.Plan.{Plan as Opened}
+use Rattle.lanes.specs.declared.Network.{Network}
+use Rattle.evals.specs.declared.Found.{Found}
+use Rattle.evals.specs.Passes.{Fields, mk, vals_after, mets_after}
 
 -- What rules ask and none of them changes: the nodes' fields, what registers hold, each queue's node, putting part and depth, each part's finished cycles,
 -- the limit, where the channels end and how many nodes there are.
@@ -98,3 +101,14 @@ mk_plan F held node from depth count limit channels nodes =
 abbrev pub mk_pass : ℕ → ℕ → List ℕ → List ℕ → List Bool → List ℕ → List Bool → Pass
 mk_pass seen fired cells used flag vals mets =
     record { seen = seen; fired = fired; cells = cells; used = used; flag = flag; vals = vals; mets = mets }
+
+-- the same from the structs that hold the arrays; the channels end behind the inputs
+abbrev pub channels_end : Opened → ℕ
+channels_end P = min P.inputs 512 + min P.channels 512
+
+abbrev pub rules_of : Opened → Network → Plan
+rules_of P N =
+    mk_plan (mk P.code P.width P.join P.k P.ra P.rb P.rc) N.held P.node P.from P.depth N.count P.limit (channels_end P) P.nodes
+
+abbrev pub pass_of : Network → Found → Pass
+pass_of N F = mk_pass 0 0 N.cells N.used N.flag F.vals F.mets

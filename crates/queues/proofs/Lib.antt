@@ -3,6 +3,8 @@ pub mod Listed
 pub mod Words
 pub mod Marks
 pub mod Crossings
+pub mod Puts
+pub mod Taken
 pub mod Whole
 pub mod Arrays
 pub mod Same

@@ -1,18 +1,12 @@
 -- Lists in order, and their entries stored one behind the other: a turn of a loop that finds one more entry or none. By induction on the entries.
 use Rattle.std.proofs.Common.{◌≡◌, ℕ, zero, suc, ◌+◌, ◌*◌, ◌<◌, ◌≤◌, max, Bool, true, false, cond, List, [], ◌∷◌, ◌++◌, length, get_or, set, sym, refl, ap, ◌∙◌, ⊎_elim, append-nil, le_of_suc-le-suc, not-suc-le-zero, add-zero, add-suc, eq-or-lt_of_le, add-one, arith, length-append, length-set, get_or-set_other, get_or-set_same}
 use Rattle.queues.specs.Lists.{listed, laid, one_if, some, largest}
-use Rattle.queues.specs.Pass.{set_if}
 
 module _ {A : Type 0} where
   pub laid_append : (f : A → ℕ) (k : ℕ) (ps qs : List A) (xs : List ℕ) → laid f k (ps ++ qs) xs ≡ laid f (k + length ps) qs (laid f k ps xs)
   unfolding laid
   laid_append f k [] qs xs = ap (λ j. laid f j qs xs) (sym (add-zero k))
   laid_append f k (p ∷ ps) qs xs = laid_append f (suc k) ps qs (set xs k (f p)) ∙ ap (λ j. laid f j qs (laid f (suc k) ps (set xs k (f p)))) (omega arith)
-
-  pub laid-length : (f : A → ℕ) (k : ℕ) (qs : List A) (xs : List ℕ) → length (laid f k qs xs) ≡ length xs
-  unfolding laid
-  laid-length f k [] xs = refl
-  laid-length f k (q ∷ qs) xs = laid-length f (suc k) qs (set xs k (f q)) ∙ simp length-set
 
   laid-before : (f : A → ℕ) (k : ℕ) (qs : List A) (xs : List ℕ) (j : ℕ) → j < k → get_or (laid f k qs xs) j 0 ≡ get_or xs j 0
   unfolding laid
@@ -29,15 +23,6 @@ module _ {A : Type 0} where
       let e : k + suc j ≡ suc k + j = omega arith in
       rw e (laid_at f d (suc k) qs (set xs k (f q)) j (omega arith) (rw (length-set xs k (f q)) (omega arith)))
 
-  laid_if : (f : A → ℕ) (k : ℕ) (b : Bool) (x : A) (xs : List ℕ) → laid f k (one_if b x) xs ≡ set_if b xs k (f x)
-  unfolding laid
-  laid_if f k true x xs = refl
-  laid_if f k false x xs = refl
-
-  -- one more entry, or none
-  pub laid-turn : (f : A → ℕ) (k : ℕ) (qs : List A) (b : Bool) (x : A) (xs l : List ℕ) (j : ℕ) → l ≡ laid f k qs xs → j ≡ k + length qs → set_if b l j (f x) ≡ laid f k (qs ++ one_if b x) xs
-  laid-turn f k qs b x xs l j e h = rw (e, h) (sym (laid_append f k qs (one_if b x) xs ∙ laid_if f (k + length qs) b x (laid f k qs xs)))
-
   one-length : (b : Bool) (x : A) → length (one_if b x) ≡ cond b 1 0
   one-length true x = refl
   one-length false x = refl
@@ -50,10 +35,6 @@ module _ {A : Type 0} where
   unfolding listed
   listed_next i f = rw (add-one i)
 
-  pub listed-none : (f : ℕ → List A) → listed 0 f ≡ []
-  unfolding listed
-  listed-none f = refl
-
   pub listed_same : (n : ℕ) (f g : ℕ → List A) → ((k : ℕ) → k < n → f k ≡ g k) → listed n f ≡ listed n g
   unfolding listed
   listed_same zero f g h = refl
@@ -64,10 +45,6 @@ module _ {A : Type 0} where
   unfolding listed
   listed-skip k zero f h = rw (add-zero k)
   listed-skip k (suc z) f h = rw (add-suc k z, h z (omega arith), append-nil (listed (k + z) f)) (listed-skip k z f (λ j l. h j (omega arith)))
-
-  pub laid_none : (f : A → ℕ) (k : ℕ) (g : ℕ → List A) (xs : List ℕ) → xs ≡ laid f k (listed 0 g) xs
-  unfolding laid listed
-  laid_none f k g xs = refl
 
   one-few : (b : Bool) (x : A) → length (one_if b x) ≤ 1
   one-few true x = omega arith
@@ -85,38 +62,15 @@ module _ {A : Type 0} where
   pub ones-few : (n : ℕ) (t : ℕ → Bool) (x : ℕ → A) → length (listed n (λ i. one_if (t i) (x i))) ≤ n
   ones-few n t x = let h = listed-few n 1 (λ i. one_if (t i) (x i)) (λ k l. one-few (t k) (x k)) in omega arith
 
--- a loop that finds an entry in each turn where a test holds: how many it has found, and what it has stored
-module _ {A : Type 0} (t : ℕ → Bool) (x : ℕ → A) where
-  pub count_turn : (i q r : ℕ) → q ≡ length (listed i (λ j. one_if (t j) (x j))) → r ≡ cond (t i) 1 0 → q + r ≡ length (listed (i + 1) (λ j. one_if (t j) (x j)))
-  count_turn i q r e h = rw (e, h) (sym (ap length (listed_next i (λ j. one_if (t j) (x j))) ∙ length-turn (listed i (λ j. one_if (t j) (x j))) (t i) (x i)))
-
-  pub store-turn : (f : A → ℕ) (k i j v : ℕ) (xs l m : List ℕ) → l ≡ laid f k (listed i (λ j. one_if (t j) (x j))) xs → j ≡ k + length (listed i (λ j. one_if (t j) (x j))) → v ≡ f (x i) → m ≡ set_if (t i) l j v → m ≡ laid f k (listed (i + 1) (λ j. one_if (t j) (x j))) xs
-  store-turn f k i j v xs l m e h g s =
-      s
-      ∙ ap (λ y. set_if (t i) l j y) g
-      ∙ laid-turn f k (listed i (λ j. one_if (t j) (x j))) (t i) (x i) xs l j e h
-      ∙ ap (λ qs. laid f k qs xs) (sym (listed_next i (λ j. one_if (t j) (x j))))
-
--- a loop that finds a stretch of entries in each turn
-module _ {A : Type 0} (g : ℕ → List A) where
-  pub stretch-count : (i : ℕ) → length (listed (i + 1) g) ≡ length (listed i g) + length (g i)
-  stretch-count i = ap length (listed_next i g) ∙ length-append (listed i g) (g i)
-
-  pub stretch-turn : (f : A → ℕ) (k i j : ℕ) (xs l m : List ℕ) → l ≡ laid f k (listed i g) xs → j ≡ k + length (listed i g) → m ≡ laid f j (g i) l → m ≡ laid f k (listed (i + 1) g) xs
-  stretch-turn f k i j xs l m e h s =
-      s
-      ∙ rw (e, h) (sym (laid_append f k (listed i g) (g i) xs))
-      ∙ ap (λ qs. laid f k qs xs) (sym (listed_next i g))
-
 -- an entry in each turn
 pub ones-all : {A : Type 0} (x : ℕ → A) (n : ℕ) → length (listed n (λ j. one_if true (x j))) ≡ n
 unfolding listed
 ones-all x zero = refl
 ones-all x (suc n) = length-append (listed n (λ j. one_if true (x j))) (x n ∷ []) ∙ rw (ones-all x n) (omega arith)
 
-pub largest_step : (f : ℕ → ℕ) (i m w v : ℕ) → m ≡ largest i f → w ≡ f i → v ≡ max w m → v ≡ largest (i + 1) f
+pub largest_step : (f : ℕ → ℕ) (i m w v : ℕ) → m ≡ largest i f → w ≡ f i → v ≡ max m w → v ≡ largest (i + 1) f
 unfolding largest
-largest_step f i m w v e h g = rw (add-one i, g, h, e)
+largest_step f i m w v e h g = rw (add-one i, g, h, e) (omega arith)
 
 -- each is at most the largest
 pub largest_le : (n : ℕ) (f : ℕ → ℕ) (i : ℕ) → i < n → f i ≤ largest n f

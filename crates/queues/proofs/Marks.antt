@@ -4,6 +4,9 @@ use mathlib.Core.Bool.{and-false}
 use borrow.Author.Tests.{eqb-false}
 use lib.Bits.{bit_or}
 use Rattle.codes.specs.Rows.{count_of}
+use Rattle.codes.specs.Records.{operands_in}
+use Rattle.netlist.specs.declared.Netlist.{Netlist}
+use Rattle.netlist.specs.Netlists.{record_of}
 use Rattle.queues.specs.Lists.{some, member}
 use Rattle.queues.specs.Pass.{bit_of, mark_if, marked}
 use Rattle.queues.proofs.Words.{or_bit, one_bit}
@@ -12,27 +15,27 @@ pub mark_length : (b : Bool) (x p : ℕ) (l : List ℕ) → length (mark_if b x 
 mark_length true x p l = length-set l x (bit_or (get_or l x 0) (2 ^ p))
 mark_length false x p l = refl
 
-pub marked-length : (code a b c part : List ℕ) (n : ℕ) (l : List ℕ) → length (marked code a b c part n l) ≡ length l
+pub marked-length : (n : Netlist) (part : List ℕ) (k : ℕ) (l : List ℕ) → length (marked n part k l) ≡ length l
 unfolding marked
-marked-length code a b c part zero l = refl
-marked-length code a b c part (suc n) l =
-    let m : ℕ = count_of (get_or code n 0) in
-    let p : ℕ = get_or part n 0 in
-    let l0 : List ℕ = marked code a b c part n l in
-    let l1 : List ℕ = mark_if (ltb 0 m) (get_or a n 0) p l0 in
-    let l2 : List ℕ = mark_if (ltb 1 m) (get_or b n 0) p l1 in
-    mark_length (ltb 2 m) (get_or c n 0) p l2 ∙ mark_length (ltb 1 m) (get_or b n 0) p l1 ∙ mark_length (ltb 0 m) (get_or a n 0) p l0 ∙ marked-length code a b c part n l
+marked-length n part zero l = refl
+marked-length n part (suc k) l =
+    let m : ℕ = count_of (get_or n.code k 0) in
+    let p : ℕ = get_or part k 0 in
+    let l0 : List ℕ = marked n part k l in
+    let l1 : List ℕ = mark_if (ltb 0 m) (get_or n.a k 0) p l0 in
+    let l2 : List ℕ = mark_if (ltb 1 m) (get_or n.b k 0) p l1 in
+    mark_length (ltb 2 m) (get_or n.c k 0) p l2 ∙ mark_length (ltb 1 m) (get_or n.b k 0) p l1 ∙ mark_length (ltb 0 m) (get_or n.a k 0) p l0 ∙ marked-length n part k l
 
 -- one node's three fields, a turn of the pass
-pub mark_turn : (code a b c part : List ℕ) (i m : ℕ) (l₀ l l1 l2 l3 : List ℕ)
-    → l ≡ marked code a b c part i l₀
-    → m ≡ count_of (get_or code i 0)
-    → l1 ≡ mark_if (ltb 0 m) (get_or a i 0) (get_or part i 0) l
-    → l2 ≡ mark_if (ltb 1 m) (get_or b i 0) (get_or part i 0) l1
-    → l3 ≡ mark_if (ltb 2 m) (get_or c i 0) (get_or part i 0) l2
-    → l3 ≡ marked code a b c part (i + 1) l₀
+pub mark_turn : (n : Netlist) (part : List ℕ) (i m : ℕ) (l₀ l l1 l2 l3 : List ℕ)
+    → l ≡ marked n part i l₀
+    → m ≡ count_of (get_or n.code i 0)
+    → l1 ≡ mark_if (ltb 0 m) (get_or n.a i 0) (get_or part i 0) l
+    → l2 ≡ mark_if (ltb 1 m) (get_or n.b i 0) (get_or part i 0) l1
+    → l3 ≡ mark_if (ltb 2 m) (get_or n.c i 0) (get_or part i 0) l2
+    → l3 ≡ marked n part (i + 1) l₀
 unfolding marked
-mark_turn code a b c part i m l₀ l l1 l2 l3 e h e1 e2 e3 = rw (add-one i, e3, e2, e1, h, e)
+mark_turn n part i m l₀ l l1 l2 l3 e h e1 e2 e3 = rw (add-one i, e3, e2, e1, h, e)
 
 flip : (a b : Bool) → (a || b) ≡ ((b && true) || a)
 flip true true = refl
@@ -84,29 +87,29 @@ three_is (suc (suc (suc k))) i a b c true y =
 three_is (suc (suc (suc k))) i a b c false y =
     rw (lt-ltb 2 (suc (suc (suc k))) (omega arith), lt-ltb 1 (suc (suc (suc k))) (omega arith), lt-ltb 0 (suc (suc (suc k))) (omega arith))
 
--- after n nodes a bit is set exactly where one of them, in that part, uses the node
-pub marks_at : (code a b c part : List ℕ) (n i p : ℕ) (l : List ℕ)
+-- after k nodes a bit is set exactly where one of them, in that part, uses the node
+pub marks_at : (n : Netlist) (part : List ℕ) (k i p : ℕ) (l : List ℕ)
     → length l ≡ 1024
     → ((j k : ℕ) → bit_of (get_or l j 0) k ≡ false)
     → i < 1024
     → p < 32
-    → ((b : ℕ) → b < n → get_or part b 0 < 32)
-    → bit_of (get_or (marked code a b c part n l) i 0) p ≡ some n (λ j. eqb (get_or part j 0) p && member i (take (count_of (get_or code j 0)) (get_or a j 0 ∷ get_or b j 0 ∷ get_or c j 0 ∷ [])))
+    → ((b : ℕ) → b < k → get_or part b 0 < 32)
+    → bit_of (get_or (marked n part k l) i 0) p ≡ some k (λ j. eqb (get_or part j 0) p && member i (operands_in (record_of n j)))
 unfolding marked some
-marks_at code a b c part zero i p l e none h hp few = none i p
-marks_at code a b c part (suc n) i p l e none h hp few =
-    let m : ℕ = count_of (get_or code n 0) in
-    let r : ℕ = get_or part n 0 in
-    let hr : r < 32 = few n (omega arith) in
-    let l0 : List ℕ = marked code a b c part n l in
-    let e0 : length l0 ≡ 1024 = marked-length code a b c part n l ∙ e in
-    let l1 : List ℕ = mark_if (ltb 0 m) (get_or a n 0) r l0 in
-    let e1 : length l1 ≡ 1024 = mark_length (ltb 0 m) (get_or a n 0) r l0 ∙ e0 in
-    let l2 : List ℕ = mark_if (ltb 1 m) (get_or b n 0) r l1 in
-    let e2 : length l2 ≡ 1024 = mark_length (ltb 1 m) (get_or b n 0) r l1 ∙ e1 in
-    let q = marks_at code a b c part n i p l e none h hp (λ j g. few j (omega arith)) in
-    mark_at (ltb 2 m) (get_or c n 0) r i p l2 e2 h hp hr
-    ∙ ap (λ y. (ltb 2 m && (eqb r p && eqb i (get_or c n 0))) || y) (mark_at (ltb 1 m) (get_or b n 0) r i p l1 e1 h hp hr)
-    ∙ ap (λ y. (ltb 2 m && (eqb r p && eqb i (get_or c n 0))) || ((ltb 1 m && (eqb r p && eqb i (get_or b n 0))) || y)) (mark_at (ltb 0 m) (get_or a n 0) r i p l0 e0 h hp hr)
-    ∙ ap (λ y. (ltb 2 m && (eqb r p && eqb i (get_or c n 0))) || ((ltb 1 m && (eqb r p && eqb i (get_or b n 0))) || ((ltb 0 m && (eqb r p && eqb i (get_or a n 0))) || y))) q
-    ∙ three_is m i (get_or a n 0) (get_or b n 0) (get_or c n 0) (eqb r p) _
+marks_at n part zero i p l e none h hp few = none i p
+marks_at n part (suc k) i p l e none h hp few =
+    let m : ℕ = count_of (get_or n.code k 0) in
+    let r : ℕ = get_or part k 0 in
+    let hr : r < 32 = few k (omega arith) in
+    let l0 : List ℕ = marked n part k l in
+    let e0 : length l0 ≡ 1024 = marked-length n part k l ∙ e in
+    let l1 : List ℕ = mark_if (ltb 0 m) (get_or n.a k 0) r l0 in
+    let e1 : length l1 ≡ 1024 = mark_length (ltb 0 m) (get_or n.a k 0) r l0 ∙ e0 in
+    let l2 : List ℕ = mark_if (ltb 1 m) (get_or n.b k 0) r l1 in
+    let e2 : length l2 ≡ 1024 = mark_length (ltb 1 m) (get_or n.b k 0) r l1 ∙ e1 in
+    let q = marks_at n part k i p l e none h hp (λ j g. few j (omega arith)) in
+    mark_at (ltb 2 m) (get_or n.c k 0) r i p l2 e2 h hp hr
+    ∙ ap (λ y. (ltb 2 m && (eqb r p && eqb i (get_or n.c k 0))) || y) (mark_at (ltb 1 m) (get_or n.b k 0) r i p l1 e1 h hp hr)
+    ∙ ap (λ y. (ltb 2 m && (eqb r p && eqb i (get_or n.c k 0))) || ((ltb 1 m && (eqb r p && eqb i (get_or n.b k 0))) || y)) (mark_at (ltb 0 m) (get_or n.a k 0) r i p l0 e0 h hp hr)
+    ∙ ap (λ y. (ltb 2 m && (eqb r p && eqb i (get_or n.c k 0))) || ((ltb 1 m && (eqb r p && eqb i (get_or n.b k 0))) || ((ltb 0 m && (eqb r p && eqb i (get_or n.a k 0))) || y))) q
+    ∙ three_is m i (get_or n.a k 0) (get_or n.b k 0) (get_or n.c k 0) (eqb r p) _

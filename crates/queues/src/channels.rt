@@ -1,46 +1,14 @@
 // The channels: the parts that use a node marked in its word, a bit for each, then numbered by node and part.
-ghost use Rattle.std.specs.Prelude.{◌≡◌, ℕ, ◌+◌, ◌*◌, ◌%◌, ◌^◌, ◌<◌, ◌≤◌, true, length, replicate, nat_le, slice_index};
-ghost use Rattle.base.specs.Checks.{every};
-ghost use Rattle.base.specs.Lists.{fill};
-ghost use Rattle.queues.specs.Lists.{laid};
-ghost use Rattle.queues.specs.Pass.{Places, mark_if, marked, others, before, channels_by, channels_up_to, channels_all_in, Told};
+ghost use Rattle.std.specs.Prelude.{◌≡◌, ◌<◌, ◌≤◌, ◌&&◌, not, ◌==◌, cond, length, nat_lt};
+ghost use Rattle.queues.specs.Queues.{part_of, inputs_of, channels_all, channel_place};
+ghost use Rattle.queues.specs.Found.{no_queue};
+ghost use Rattle.queues.specs.Pass.{Fit, put_all, mark_if, marked, others, channels_by, Numbered};
 
-// Marks that node x is used in part p, where the field is an operand.
-fn mark(marks: &mut [u32; 1024], used: bool, x: u16, p: u8)
-    requires { (p < 32) × (length marks.old ≡ 1024) }
-    ensures { (marks.new ≡ mark_if used x p marks.old) × (length marks.new ≡ 1024) }
-{
-    if used {
-        let at = x as usize;
-        if at < 1024 {
-            let word = marks[at];
-            marks[at] = word | (1u32 << p);
-        }
-    }
-}
-
-// Marks each operand of the first n nodes, in the part of the node that uses it.
-fn mark_uses<'x>(
-    code: &'x [u8; 1024],
-    a: &'x [u16; 1024],
-    b: &'x [u16; 1024],
-    c: &'x [u16; 1024],
-    part: &'x [u8; 1024],
-    n: usize,
-    marks: &mut [u32; 1024],
-)
-    requires { (n ≤ 1024) × (length marks.old ≡ 1024) × (every (λ i. nat_le (slice_index part.now i) 31) n ≡ true) }
-    ensures { marks.new ≡ marked code.now a.now b.now c.now part.now n marks.old }
-{
-    let mut i = 0;
-    while i < n {
-        let m = codes::operand_count(code[i]);
-        let p = part[i];
-        mark(marks, 0 < m, a[i], p);
-        mark(marks, 1 < m, b[i], p);
-        mark(marks, 2 < m, c[i], p);
-        i += 1;
-    }
+// For each node the parts that use it, a bit for each, and the number of its first channel.
+#[derive(Drop)]
+pub struct Channels {
+    pub marks: [u32; 1024],
+    pub first: [u16; 1024],
 }
 
 // The word of a node without its own part's bit.
@@ -51,85 +19,85 @@ fn others_of(word: u32, own: u8) -> u32
     word & !(1u32 << own)
 }
 
-// The channel to part p of a node whose first is given: as many stand before it as there are bits below.
-pub fn channel_at(first: u16, word: u32, own: u8, p: u8) -> u16
-    requires { (own < 32) × (p < 32) }
-    ensures { result ≡ (first + before word own p) % 2 ^ 16 }
+// Marks that node x is used in part p, where the field is an operand.
+fn mark(marks: &mut [u32; 1024], used: bool, x: u16, p: u8)
+    requires { p < 32 }
+    ensures { marks.new ≡ mark_if used x p marks.old }
 {
-    let below = u32::count_ones(others_of(word, own) % (1u32 << p));
-    (std::num::wrapping_add_u32(first as u32, below) % 65536) as u16
+    let at = x as usize;
+    if used & (at < 1024) {
+        marks[at] |= 1u32 << p;
+    }
 }
 
-// The channels of node i, put from place q on; the place behind them. The bits of its word are walked from the lowest on.
-fn number_node<'x>(
-    part: &'x [u8; 1024],
-    marks: &'x [u32; 1024],
-    i: usize,
-    q: usize,
-    node: &mut [u16; 512],
-    from: &mut [u8; 512],
-    into: &mut [u8; 512],
-) -> usize
-    requires { (i < 1024) × (slice_index part.now i < 32) × (q ≤ 1024 + i * 32) × Places node.old from.old into.old }
-    ensures { (result ≡ q + length (channels_by part.now marks.now i 32)) × (result ≤ q + 32) × (node.new ≡ laid (λ q. q.node) q (channels_by part.now marks.now i 32) node.old) × (from.new ≡ laid (λ q. q.from) q (channels_by part.now marks.now i 32) from.old) × (into.new ≡ laid (λ q. q.into) q (channels_by part.now marks.now i 32) into.old) × Places node.new from.new into.new }
+// Marks each operand of the nodes, in the part of the node that uses it.
+fn mark_uses(net: &netlist::Netlist, part: &[u8; 1024], marks: &mut [u32; 1024])
+    requires { Fit net.now part.now }
+    ensures { marks.new ≡ marked net.now part.now net.now.nodes marks.old }
 {
-    let own = part[i];
-    let mut rest = others_of(marks[i], own);
-    let mut next = q;
+    for i in 0..net.nodes {
+        let m = codes::operand_count(net.code[i]);
+        let p = part[i];
+        mark(marks, 0 < m, net.a[i], p);
+        mark(marks, 1 < m, net.b[i], p);
+        mark(marks, 2 < m, net.c[i], p);
+    }
+}
+
+// The channels of node i to the other parts of its word, whose bits are walked from the lowest on: no index is counted, and a `for` over all 32 parts would only
+// add a test to each.
+fn number_node(word: u32, own: u8, i: usize, queues: &mut crate::Queues)
+    requires { (i < 1024) × (own < 32) × (queues.old.count ≤ 33792) }
+    ensures { queues.new ≡ put_all (channels_by word own i 32) queues.old }
+{
+    let mut rest = others_of(word, own);
     let mut p = 0u32;
     while rest != 0 {
-        let zeros = u32::trailing_zeros(rest);
+        let zeros = rest.trailing_zeros();
         let to = p + zeros;
-        crate::ends::put_queue(true, node, from, into, next, i as u16, own, to as u8);
+        queues.put(i as u16, own, to as u8);
         rest = rest >> zeros >> 1u32;
-        next += 1;
         p = to + 1;
     }
-    next
 }
 
-// The channels of the first n nodes, put from place q on, and the place of each node's first; the place behind them.
-fn find_channels<'x>(
-    part: &'x [u8; 1024],
-    marks: &'x [u32; 1024],
-    n: usize,
-    q: usize,
-    node: &mut [u16; 512],
-    from: &mut [u8; 512],
-    into: &mut [u8; 512],
-    first: &mut [u16; 1024],
-) -> usize
-    requires { (n ≤ 1024) × (q ≤ 1024) × (every (λ i. nat_le (slice_index part.now i) 31) n ≡ true) × Places node.old from.old into.old }
-    ensures { (result ≡ q + length (channels_up_to part.now marks.now n)) × (result ≤ 33792) × (node.new ≡ laid (λ q. q.node) q (channels_up_to part.now marks.now n) node.old) × (from.new ≡ laid (λ q. q.from) q (channels_up_to part.now marks.now n) from.old) × (into.new ≡ laid (λ q. q.into) q (channels_up_to part.now marks.now n) into.old) × (first.new ≡ fill (λ i. q + length (channels_up_to part.now marks.now i)) n first.old) × Places node.new from.new into.new }
+// The channels of all nodes, by node and then by part, behind the inputs.
+pub fn find_channels(
+    net: &netlist::Netlist,
+    part: &[u8; 1024],
+    queues: &mut crate::Queues,
+) -> Channels
+    requires { Fit net.now part.now × (queues.old.count ≡ length (inputs_of net.now part.now)) }
+    ensures { (queues.new ≡ put_all (channels_all net.now part.now) queues.old) × (queues.new.count ≤ 33792) × Numbered net.now part.now result }
 {
-    let mut next = q;
-    let mut i = 0;
-    while i < n {
-        first[i] = next as u16;
-        next = number_node(part, marks, i, next, node, from, into);
-        i += 1;
+    let mut channels = Channels {
+        marks: [0; 1024],
+        first: [0; 1024],
+    };
+    mark_uses(net, part, &mut channels.marks);
+    for i in 0..net.nodes {
+        channels.first[i] = queues.count as u16;
+        number_node(channels.marks[i], part[i], i, queues);
     }
-    next
+    channels
 }
 
-// The channels of n nodes, put from place q on, the place of each node's first, and the marks that tell the others; the place behind them.
-pub fn lay_channels<'x>(
-    code: &'x [u8; 1024],
-    a: &'x [u16; 1024],
-    b: &'x [u16; 1024],
-    c: &'x [u16; 1024],
-    part: &'x [u8; 1024],
-    n: usize,
-    q: usize,
-    node: &mut [u16; 512],
-    from: &mut [u8; 512],
-    into: &mut [u8; 512],
-    first: &mut [u16; 1024],
-    marks: &mut [u32; 1024],
-) -> usize
-    requires { (n ≤ 1024) × (q ≤ 1024) × (every (λ i. nat_le (slice_index part.now i) 31) n ≡ true) × Places node.old from.old into.old × (marks.old ≡ replicate 1024 0) }
-    ensures { (result ≡ q + length (channels_all_in code.now a.now b.now c.now part.now n n)) × (result ≤ 33792) × (node.new ≡ laid (λ q. q.node) q (channels_all_in code.now a.now b.now c.now part.now n n) node.old) × (from.new ≡ laid (λ q. q.from) q (channels_all_in code.now a.now b.now c.now part.now n n) from.old) × (into.new ≡ laid (λ q. q.into) q (channels_all_in code.now a.now b.now c.now part.now n n) into.old) × (first.new ≡ fill (λ i. q + length (channels_all_in code.now a.now b.now c.now part.now n i)) n first.old) × Places node.new from.new into.new × Told code.now a.now b.now c.now part.now n marks.new }
-{
-    mark_uses(code, a, b, c, part, n, marks);
-    find_channels(part, marks, n, q, node, from, into, first)
+impl Channels {
+    // The queue that operand x is read from in part p; none where the field is no operand or x is in that part itself. As many of x's channels stand
+    // before it as there are bits below p.
+    pub fn via(&self, net: &netlist::Netlist, part: &[u8; 1024], used: bool, x: u16, p: u8) -> u16
+        requires { Fit net.now part.now × Numbered net.now part.now self.now × (p < 32) }
+        ensures { result ≡ cond (used && nat_lt x net.now.nodes && not (part_of part.now x == p)) (channel_place net.now part.now x p) no_queue }
+    {
+        let i = x as usize;
+        if !(used & (i < net.nodes)) {
+            return crate::NONE;
+        }
+        let own = part[i];
+        if own == p {
+            return crate::NONE;
+        }
+        let below = (others_of(self.marks[i], own) % (1u32 << p)).count_ones();
+        self.first[i] + below as u16
+    }
 }

@@ -1,17 +1,20 @@
 // The queues of a cut drawing, in the outline's order, found in one pass over the operands.
 #![tactic(auto)]
 
-ghost use Rattle.std.specs.Prelude.{◌≡◌, ℕ, ◌≤◌, true, List, nat_le, slice_index};
-ghost use Rattle.base.specs.Checks.{every};
-ghost use Rattle.netlist.specs.Netlists.{net_with};
+ghost use Rattle.std.specs.Prelude.{◌≡◌, ◌<◌, ◌≤◌};
 ghost use Rattle.queues.specs.Found.{no_queues, found, queues_found};
+ghost use Rattle.queues.specs.Pass.{Fit, put};
 
 mod channels;
 mod ends;
 mod maps;
 mod parts;
 
-// The queues of a cut, inputs first, then channels, then outputs, and where each node and operand finds its own.
+// No queue.
+const NONE: u16 = 512;
+
+// The queues of a cut, inputs first, then channels, then outputs, and where each node and operand finds its own. Arrays with counts beside them, since C sees them and
+// nothing is allocated.
 #[repr(C)]
 #[derive(Clone, Copy)]
 pub struct Queues {
@@ -30,6 +33,22 @@ pub struct Queues {
     pub a: [u16; 1024],
     pub b: [u16; 1024],
     pub c: [u16; 1024],
+}
+
+impl Queues {
+    // Puts a queue behind those that are there; one past the arrays is counted and not stored.
+    fn put(&mut self, node: u16, from: u8, into: u8)
+        requires { self.old.count < 65536 }
+        ensures { self.new ≡ put node from into self.old }
+    {
+        let q = self.count;
+        if q < 512 {
+            self.node[q] = node;
+            self.from[q] = from;
+            self.into[q] = into;
+        }
+        self.count = q + 1;
+    }
 }
 
 // No queues, which a refusal gives.
@@ -52,93 +71,31 @@ pub fn no_queues() -> Queues
     }
 }
 
-// The queues of a drawing whose parts fit, of which the fields are lent that they hang on.
-fn number_queues<'x>(
-    nodes: usize,
-    outputs: usize,
-    code: &'x [u8; 1024],
-    fa: &'x [u16; 1024],
-    fb: &'x [u16; 1024],
-    fc: &'x [u16; 1024],
-    output: &'x [u16; 64],
-    part: [u8; 1024],
-) -> Queues
-    requires { (nodes ≤ 1024) × (outputs ≤ 64) × (every (λ i. nat_le (slice_index part i) 31) nodes ≡ true) }
-    ensures { (w k t : List ℕ) (l : ℕ) → result ≡ found (net_with nodes code.now w fa.now fb.now fc.now k outputs output.now l t) part }
+// The queues of a drawing whose parts fit.
+fn number_queues(net: &netlist::Netlist, part: &[u8; 1024]) -> Queues
+    requires { Fit net.now part.now × (net.now.outputs ≤ 64) }
+    ensures { result ≡ found net.now part.now }
 {
-    let parts = parts::count_parts(&part, nodes);
-    let mut node = [0u16; 512];
-    let mut from = [0u8; 512];
-    let mut into = [0u8; 512];
-    let mut input = [0u16; 1024];
-    let mut first = [0u16; 1024];
-    let mut marks = [0u32; 1024];
-    let mut a = [0u16; 1024];
-    let mut b = [0u16; 1024];
-    let mut c = [0u16; 1024];
-    let inputs = ends::find_inputs(
-        code, &part, nodes, &mut node, &mut from, &mut into, &mut input,
-    );
-    let end = channels::lay_channels(
-        code, fa, fb, fc, &part, nodes, inputs, &mut node, &mut from, &mut into, &mut first,
-        &mut marks,
-    );
-    ends::find_outputs(output, &part, outputs, end, &mut node, &mut from, &mut into);
-    maps::map_field(code, fa, 0, &part, &marks, &first, nodes, &mut a);
-    maps::map_field(code, fb, 1, &part, &marks, &first, nodes, &mut b);
-    maps::map_field(code, fc, 2, &part, &marks, &first, nodes, &mut c);
-    Queues {
-        parts,
-        count: end + outputs,
-        inputs,
-        channels: end - inputs,
-        outputs,
-        node,
-        from,
-        into,
-        input,
-        a,
-        b,
-        c,
-    }
-}
-
-// The same in order of a drawing cut into parts; none where the parts do not fit.
-pub fn find_queues_in<'x>(
-    nodes: usize,
-    outputs: usize,
-    code: &'x [u8; 1024],
-    fa: &'x [u16; 1024],
-    fb: &'x [u16; 1024],
-    fc: &'x [u16; 1024],
-    output: &'x [u16; 64],
-    part: [u8; 1024],
-) -> Queues
-    ensures { (w k t : List ℕ) (l : ℕ) → result ≡ queues_found (net_with nodes code.now w fa.now fb.now fc.now k outputs output.now l t) part }
-{
-    if (nodes <= 1024) & (outputs <= 64) {
-        if parts::parts_fit(&part, nodes) {
-            number_queues(nodes, outputs, code, fa, fb, fc, output, part)
-        } else {
-            no_queues()
-        }
-    } else {
-        no_queues()
-    }
+    let mut queues = no_queues();
+    queues.parts = parts::count_parts(&part[..net.nodes]);
+    ends::find_inputs(net, part, &mut queues);
+    queues.inputs = queues.count;
+    let channels = channels::find_channels(net, part, &mut queues);
+    queues.channels = queues.count - queues.inputs;
+    ends::find_outputs(net, part, &mut queues);
+    queues.outputs = net.outputs;
+    maps::map_operands(net, part, &channels, &mut queues);
+    queues
 }
 
 // The queues of a drawing cut into parts, in order; none where the parts do not fit.
-pub fn find_queues(net: netlist::Netlist, part: [u8; 1024]) -> Queues
-    ensures { result ≡ queues_found net part }
+pub fn find_queues(net: &netlist::Netlist, part: &[u8; 1024]) -> Queues
+    ensures { result ≡ queues_found net.now part.now }
 {
-    find_queues_in(
-        net.nodes,
-        net.outputs,
-        &net.code,
-        &net.a,
-        &net.b,
-        &net.c,
-        &net.output,
-        part,
-    )
+    if (net.nodes <= 1024) & (net.outputs <= 64) {
+        if parts::parts_fit(&part[..net.nodes]) {
+            return number_queues(net, part);
+        }
+    }
+    no_queues()
 }

@@ -1,7 +1,7 @@
 -- One rule by itself on the arrays of a state is that rule in the network: a put rule after the nodes it needs, a Finish after all of them, where the marks are
 -- those of the one part.
 use mathlib.Core.Path.{◌≡◌, refl, sym, ◌∙◌, ap, ap₂, subst}
-use mathlib.Core.Bool.{Bool, true, false, cond, not, ◌&&◌}
+use mathlib.Core.Bool.{Bool, true, false, not, ◌&&◌}
 use mathlib.Core.List.{List}
 use Prim.Native.Nat.{ℕ, zero, suc, ◌+◌, ◌-◌, ◌^◌, ◌<◌, ◌≤◌, min}
 use native.Mathlib.Omega.{arith}
@@ -10,7 +10,6 @@ use borrow.Author.Tests.{lt-ltb, le-ltb, ltb-true}
 use lib.Dec.{ltb}
 use lib.ListN.{get_or}
 use Rattle.base.specs.Checks.{AllGood}
-use Rattle.base.specs.Lists.{fill}
 use Rattle.base.proofs.Tests.{and_left, and_right}
 use Rattle.netlist.specs.declared.Netlist.{Netlist}
 use Rattle.netlist.specs.Checks.{net_checks}
@@ -26,12 +25,12 @@ use Rattle.nets.specs.Networks.{network_of}
 use Rattle.nets.specs.Kept.{Kept}
 use Rattle.nets.proofs.Goods.{good, few, few-queues}
 use Rattle.nets.proofs.Ready.{Finishes, finishes}
-use Rattle.finishes.specs.Finishes.{next_held, next_count, used_after, cells_after, flags_after, finished, finishing}
+use Rattle.finishes.specs.Finishes.{used_after, cells_after, flags_after, finished}
 use Rattle.plans.specs.declared.Plan.{Plan}
 use Rattle.plans.specs.Plans.{plan_of}
 use Rattle.puts.specs.Puts.{Plan as Rules, Pass, needed, evaluated, put_tried, puts_after}
-use Rattle.spots.specs.declared.Network.{Network}
-use Rattle.spots.specs.Stores.{net_in, store_of}
+use Rattle.lanes.specs.declared.Network.{Network}
+use Rattle.spots.specs.Stores.{store_of}
 use Rattle.spots.specs.Rounds.{first_pass, puts_on, marks_on, finished_on, finishes_on}
 use Rattle.spots.proofs.Putting.{Holds, Tried}
 use Rattle.spots.proofs.Phases.{asked, see_up_to, same-rules, kept-fired, nodes_for, put_alone_lem}

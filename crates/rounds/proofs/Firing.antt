@@ -2,13 +2,13 @@
 -- network's.
 use mathlib.Core.Path.{◌≡◌, refl, sym, ◌∙◌, ap, ap₂}
 use mathlib.Core.Bool.{Bool, true, false, cond}
-use mathlib.Core.List.{List, [], ◌∷◌}
+use mathlib.Core.List.{[], ◌∷◌}
 use mathlib.Core.Logic.{by_cases}
 use Prim.Native.Nat.{ℕ, ◌+◌, ◌-◌, ◌^◌, ◌<◌, ◌≤◌, min}
 use native.Mathlib.Decide.{dec_lt}
 use native.Mathlib.Omega.{arith}
 use borrow.Author.Tests.{lt-ltb, le-ltb}
-use lib.Dec.{eqb, ltb}
+use lib.Dec.{ltb}
 use Rattle.base.specs.Checks.{AllGood, whole, verdict}
 use Rattle.netlist.specs.declared.Netlist.{Netlist}
 use Rattle.netlist.specs.Checks.{net_checks}
@@ -24,18 +24,18 @@ use Rattle.nets.specs.Orders.{asked}
 use Rattle.nets.specs.Calls.{answer_to}
 use Rattle.nets.specs.Networks.{network_of}
 use Rattle.nets.specs.Kept.{Kept}
-use Rattle.nets.proofs.Goods.{good, few, few-queues, queues_are}
+use Rattle.nets.proofs.Goods.{few, few-queues, queues_are}
 use Rattle.nets.proofs.Kept.{reached_is_kept}
 use Rattle.nets.proofs.Rounds.{play-one, rule-low}
 use Rattle.plans.specs.declared.Plan.{Plan}
 use Rattle.plans.specs.Plans.{plan_of}
-use Rattle.spots.specs.declared.Network.{Network}
-use Rattle.spots.specs.Stores.{store_of, Given, net_of}
-use Rattle.moves.specs.Meaning.{fire_entry, answer_of, state_after}
+use Rattle.lanes.specs.declared.Network.{Network}
+use Rattle.spots.specs.Stores.{store_of, net_of}
+use Rattle.moves.specs.Meaning.{fire_entry}
 use Rattle.moves.proofs.Asking.{again}
-use Rattle.rounds.specs.Fires.{queue_of, part_of, is_put, is_finish, put_alone, no_puts, put_left, finish_left, firing, fire_answer, fire_left, Fired}
+use Rattle.rounds.specs.Fires.{queue_of, put_alone, put_left, finish_left, firing, fire_answer, fire_left}
 use Rattle.rounds.specs.Meaning.{FireMeans, FireKeeps}
-use Rattle.rounds.proofs.Fire.{fire-put, fire-finish, fire-none}
+use Rattle.rounds.proofs.Ways.{fire-put, fire-finish, fire-none}
 use Rattle.rounds.proofs.Alone.{put_left_is, put_fired_is, finish_left_is, finish_fired_is}
 
 -- an entry that fires, by whether there is such a rule and whether it is ready

@@ -1,5 +1,5 @@
 pub mod Left
-pub mod Fire
+pub mod Ways
 pub mod Turns
 pub mod Asks
 pub mod Alone

@@ -1,8 +1,7 @@
 -- Rounds and runs on the arrays are the network's: one round by the laws of its passes, a run by induction over its rounds, each from a state that is reached.
 use mathlib.Core.Path.{◌≡◌, refl, sym, ◌∙◌, ap, ap₂}
 use mathlib.Core.Bool.{Bool, true, false, cond}
-use Prim.Native.Nat.{ℕ, zero, suc, ◌+◌, ◌^◌, ◌<◌}
-use native.Mathlib.Nat.{zero-add}
+use Prim.Native.Nat.{ℕ, zero, suc, ◌^◌, ◌<◌}
 use native.Mathlib.Omega.{arith}
 use lib.Dec.{eqb}
 use Rattle.base.specs.Checks.{AllGood}
@@ -13,7 +12,6 @@ use Rattle.cut.specs.declared.Cut.{Cut}
 use Rattle.cut.specs.Checks.{cut_checks}
 use Rattle.nets.specs.Net.{Net}
 use Rattle.nets.specs.State.{State}
-use Rattle.nets.specs.Actions.{play}
 use Rattle.nets.specs.Rounds.{in_order, round_fires, after_round, Ran, one_more, run}
 use Rattle.nets.specs.Networks.{network_of}
 use Rattle.nets.specs.Kept.{Reached}
@@ -21,14 +19,13 @@ use Rattle.nets.proofs.Kept.{reached_is_kept, reaching}
 use Rattle.nets.proofs.Rounds.{rounds, run_plays}
 use Rattle.plans.specs.declared.Plan.{Plan}
 use Rattle.plans.specs.Plans.{plan_of}
-use Rattle.spots.specs.declared.Network.{Network}
-use Rattle.spots.specs.Stores.{store_of, Given, net_of}
+use Rattle.spots.specs.Stores.{store_of, net_of}
 use Rattle.spots.specs.Rounds.{round_on, fired_on}
 use Rattle.spots.proofs.OnArrays.{round_is, fired_is}
 use Rattle.moves.proofs.Asking.{again}
 use Rattle.rounds.specs.Runs.{RunOn, after, at_rest, run_on}
 use Rattle.rounds.proofs.Turns.{same-run}
-use Rattle.rounds.specs.Meaning.{RoundMeans, RanAs, RunMeans, RoundKeeps, RunKeeps}
+use Rattle.rounds.specs.Meaning.{RoundMeans, RunMeans, RoundKeeps, RunKeeps}
 
 module _ (n : Netlist) (c : Cut) (g : AllGood (net_checks n)) (h : AllGood (cut_checks n c)) (limit : ℕ) (small : limit < 2 ^ 32) where
   abbrev net : Net

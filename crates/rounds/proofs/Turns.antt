@@ -1,19 +1,18 @@
 -- A run's loop: what is done so far, before what is left of the run; and what a rule that is asked would do is what it does.
 use mathlib.Core.Path.{◌≡◌, refl, sym, ◌∙◌, ap, ap₂}
-use mathlib.Core.Bool.{Bool, true, false, cond, ◌&&◌}
+use mathlib.Core.Bool.{Bool, true, false, cond}
 use mathlib.Core.List.{List, []}
-use Prim.Native.Nat.{ℕ, zero, suc, ◌+◌, ◌-◌, ◌*◌, ◌<◌, ◌≤◌, min}
+use Prim.Native.Nat.{ℕ, suc, ◌+◌, ◌-◌, ◌<◌, ◌≤◌, min}
 use native.Mathlib.Omega.{arith}
-use borrow.Author.Tests.{lt-ltb, le-ltb, ltb-false, eq-eqb, ne_eqb}
-use lib.Dec.{eqb, ltb}
+use borrow.Author.Tests.{eq-eqb, ne_eqb}
 use Rattle.evals.specs.Passes.{tokens_in, tokens_there}
-use Rattle.puts.specs.Puts.{Plan as Rules, Pass, mk_plan, mk_pass, needed, evaluated, put_ready, put_done, put_tried, Asked, puts_after}
+use Rattle.puts.specs.Puts.{rules_of, Plan as Rules, Pass, mk_pass, needed, evaluated, put_ready, put_done, put_tried, Asked, puts_after}
 use Rattle.finishes.specs.Finishes.{finished, finishing}
 use Rattle.plans.specs.declared.Plan.{Plan}
-use Rattle.spots.specs.declared.Network.{Network}
-use Rattle.spots.specs.Rounds.{no_vals, no_mets, fields_of, channels_end, first_pass, rules_of, puts_on, finishes_on, round_on, fired_on, all_puts}
+use Rattle.lanes.specs.declared.Network.{Network}
+use Rattle.spots.specs.Rounds.{no_vals, no_mets, first_pass, puts_on, finishes_on, round_on, fired_on, all_puts}
 use Rattle.rounds.specs.Fires.{put_alone, no_puts, put_would, firing}
-use Rattle.rounds.specs.Runs.{RunOn, after, at_rest, run_on}
+use Rattle.rounds.specs.Runs.{RunOn, after, run_on}
 use Rattle.rounds.proofs.Left.{fired-same, puts_bounded, finishes_bounded}
 
 abbrev pub made : Network → ℕ → ℕ → RunOn
@@ -29,35 +28,25 @@ fired-few P L =
     let b = finishes_bounded P L (all_puts P L) 0 P.parts in
     omega (arith, a, b)
 
-module _ (P : Plan) (L : Network) where
-  run-next : (m n : ℕ) → fired_on P L ≡ n → run_on P L (suc m) ≡ after 1 n (run_on P (round_on P L) (cond (ltb 0 n) m 0))
+module _ (P : Plan) (L L₀ M : Network) (k d f fired : ℕ) (h : run_on P L₀ k ≡ after d f (run_on P L (k - d))) where
+  -- one round more
+  module _ (l : d < k) (e : fired ≡ fired_on P L) (g : M ≡ round_on P L) where
+    s : k - d ≡ suc (k - (d + 1))
+    s = omega arith
+
+    pub run-turn : (fired ≡ 0 → ⊥) → run_on P L₀ k ≡ after (d + 1) (f + fired) (run_on P M (k - (d + 1)))
+    unfolding run_on
+    run-turn z = h ∙ ap (λ x. after d f (run_on P L x)) s ∙ rw (← e, ← g, ne_eqb fired 0 z) (same-run refl (omega arith) (omega arith))
+
+    -- it fired none
+    pub run-rests : fired ≡ 0 → run_on P L₀ k ≡ made M (d + 1) (f + fired)
+    unfolding run_on
+    run-rests z = h ∙ ap (λ x. after d f (run_on P L x)) s ∙ rw (← e, ← g, eq-eqb fired 0 z) (same-run refl (omega arith) (omega (arith, z)))
+
+  -- nothing is left of it
+  pub run_ends : d ≡ k → run_on P L₀ k ≡ made L k f
   unfolding run_on
-  run-next m zero e = rw e
-  run-next m (suc n) e = rw (e, lt-ltb 0 (suc n) (omega arith), ne_eqb (suc n) 0 (λ z. omega arith))
-
-  pub run-turn : (L₀ M : Network) (k d f fired : ℕ) → d < k → fired ≡ fired_on P L → M ≡ round_on P L
-      → run_on P L₀ k ≡ after d f (run_on P L (k - d))
-      → run_on P L₀ k ≡ after (d + 1) (f + fired) (run_on P M (cond (ltb 0 fired) (k - (d + 1)) 0))
-  run-turn L₀ M k d f fired l e g h =
-      let s : k - d ≡ suc (k - (d + 1)) = omega arith in
-      let r : RunOn = run_on P M (cond (ltb 0 fired) (k - (d + 1)) 0) in
-      h ∙ ap (λ x. after d f (run_on P L x)) s ∙ ap (after d f) (run-next (k - (d + 1)) fired (sym e))
-      ∙ ap (λ X. after d f (after 1 fired (run_on P X (cond (ltb 0 fired) (k - (d + 1)) 0)))) (sym g)
-      ∙ same-run refl (omega arith) (omega arith)
-
-pub run_begins : (P : Plan) (L : Network) (k : ℕ) → run_on P L k ≡ after 0 0 (run_on P L (k - 0))
-run_begins P L k = let e : k - 0 ≡ k = omega arith in same-run refl (omega arith) (omega arith) ∙ ap (λ x. after 0 0 (run_on P L x)) (sym e)
-
--- nothing is left of it
-pub run_ends : (P : Plan) (L₀ L : Network) (k d f : ℕ) (going : Bool) → (going && ltb d k) ≡ false
-    → run_on P L₀ k ≡ after d f (run_on P L (cond going (k - d) 0))
-    → run_on P L₀ k ≡ made L d f
-unfolding run_on
-run_ends P L₀ L k d f false e h = h ∙ same-run refl (omega arith) (omega arith)
-run_ends P L₀ L k d f true e h =
-    let l : k ≤ d = ltb-false d k e in
-    let z : k - d ≡ 0 = omega arith in
-    h ∙ ap (λ x. after d f (run_on P L x)) z ∙ same-run refl (omega arith) (omega arith)
+  run_ends e = let z : k - d ≡ 0 = omega (arith, e) in h ∙ ap (λ x. after d f (run_on P L x)) z ∙ same-run refl (omega (arith, e)) (omega arith)
 
 -- ---- a rule asked
 
@@ -87,16 +76,14 @@ module _ (P : Plan) (L : Network) where
       ∙ tried-counts R q (evaluated R (needed R q) S) (fired-same R (needed R q) S)
 
   -- whatever stands in the store, since the test does not look at it
-  pub would_be : (q end : ℕ) (vals : List ℕ) (mets : List Bool) (b : Bool) (vals' : List ℕ) (mets' : List Bool) → end ≡ channels_end P
+  pub would_be : (q : ℕ) (vals : List ℕ) (mets : List Bool) (b : Bool) (vals' : List ℕ) (mets' : List Bool)
       → vals ≡ tokens_in L.cells (min P.queues 512) no_vals
       → mets ≡ tokens_there L.used (min P.queues 512) no_mets
-      → Asked (mk_plan (fields_of P) L.held P.node P.from P.depth L.count P.limit end P.nodes) q (mk_pass 0 0 [] L.used L.flag vals mets) b vals' mets'
+      → Asked (rules_of P L) q (mk_pass 0 0 [] L.used L.flag vals mets) b vals' mets'
       → b ≡ put_would P L q
   unfolding put_would evaluated
-  would_be q end vals mets b vals' mets' e v m h =
-      h.0
-      ∙ ap (λ x. put_ready (mk_plan (fields_of P) L.held P.node P.from P.depth L.count P.limit x P.nodes) q (evaluated (mk_plan (fields_of P) L.held P.node P.from P.depth L.count P.limit x P.nodes) (needed (mk_plan (fields_of P) L.held P.node P.from P.depth L.count P.limit x P.nodes) q) (mk_pass 0 0 [] L.used L.flag vals mets))) e
-      ∙ ap₂ (λ x y. put_ready (rules_of P L) q (evaluated (rules_of P L) (needed (rules_of P L) q) (mk_pass 0 0 [] L.used L.flag x y))) v m
+  would_be q vals mets b vals' mets' v m h =
+      h.0 ∙ ap₂ (λ x y. put_ready (rules_of P L) q (evaluated (rules_of P L) (needed (rules_of P L) q) (mk_pass 0 0 [] L.used L.flag x y))) v m
 
   -- with no put rule, flags and counts are as they were
   pub no_puts_lem : (lo hi : ℕ) → finished (finishing P.from P.into L.flag L.used L.count P.limit P.queues lo hi) (min hi 32) ≡ finishes_on P L (no_puts P L) lo hi

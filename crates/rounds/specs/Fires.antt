@@ -1,11 +1,11 @@
 -- One rule fired alone on a network's arrays: which rule a number names, what it leaves, and the answer. What that is in the outline's words, for a network that
 -- earlier calls gave, is stated in Meaning.
 use Rattle.std.specs.Prelude.{◌≡◌, Bool, cond, ℕ, ◌+◌, ◌-◌, min, eqb, ltb}
-use Rattle.puts.specs.Puts.{Pass, needed, evaluated, put_ready}
+use Rattle.puts.specs.Puts.{rules_of, Pass, needed, evaluated, put_ready}
 use Rattle.plans.specs.declared.Plan.{Plan}
-use Rattle.spots.specs.declared.Network.{Network}
+use Rattle.lanes.specs.declared.Network.{Network}
 use Rattle.spots.specs.Stores.{net_in}
-use Rattle.spots.specs.Rounds.{first_pass, rules_of, puts_on, finished_on, finishes_on}
+use Rattle.spots.specs.Rounds.{first_pass, puts_on, finished_on, finishes_on}
 
 -- rule r is the put rule of this queue, or the Finish of this part
 abbrev pub queue_of : Plan → ℕ → ℕ

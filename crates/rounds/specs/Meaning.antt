@@ -2,7 +2,7 @@
 use Rattle.std.specs.Prelude.{◌≡◌, ℕ}
 use Rattle.nets.specs.Rounds.{round_fires, after_round, run}
 use Rattle.plans.specs.declared.Plan.{Plan}
-use Rattle.spots.specs.declared.Network.{Network}
+use Rattle.lanes.specs.declared.Network.{Network}
 use Rattle.spots.specs.Stores.{store_of, Given, net_of}
 use Rattle.spots.specs.Rounds.{round_on, fired_on}
 use Rattle.moves.specs.Meaning.{fire_entry, answer_of, state_after, GivenAgain}

@@ -1,7 +1,7 @@
 -- A round and a run on a network's arrays (outline, "Rules of the network").
 use Rattle.std.specs.Prelude.{◌≡◌, cond, ℕ, zero, suc, ◌+◌, eqb, ltb}
 use Rattle.plans.specs.declared.Plan.{Plan}
-use Rattle.spots.specs.declared.Network.{Network}
+use Rattle.lanes.specs.declared.Network.{Network}
 use Rattle.spots.specs.Rounds.{round_on, fired_on}
 use Rattle.rounds.specs.declared.Ran.{Ran}
 

@@ -6,7 +6,7 @@ use Prim.Native.Nat.{ℕ}
 use lib.Dec.{eqb, ltb}
 use lib.ListN.{length}
 use Rattle.plans.specs.declared.Plan.{Plan}
-use Rattle.spots.specs.declared.Network.{Network}
+use Rattle.lanes.specs.declared.Network.{Network}
 use Rattle.rounds.specs.declared.Ran.{Ran}
 use Rattle.rounds.specs.Fires.{fire_answer, Fired}
 use Rattle.rounds.specs.Runs.{Rounded, too_many, Runs}
@@ -22,8 +22,8 @@ use Rattle.rules.specs.Calls.{OrderCall, FireCall, ReadyCall, RoundCall, RunCall
 pub fire-whole : (P : Plan) (L : Network) (k r : ℕ) (M : Network) → Fired P L k r M → FireCall P L k r M
 fire-whole P L k r M e = (e.0, e.1, λ G. let t = fire_means P L G k in (e.0 ∙ t.0, e.1 ∙ t.1))
 
-pub ready-whole : (P : Plan) (L : Network) (k r : ℕ) → r ≡ fire_answer P L k → ReadyCall P L k r
-ready-whole P L k r e = (e, λ G. e ∙ (fire_means P L G k).0)
+pub ready_whole : (P : Plan) (L : Network) (k r : ℕ) → r ≡ fire_answer P L k → ReadyCall P L k r
+ready_whole P L k r e = (e, λ G. e ∙ (fire_means P L G k).0)
 
 pub round_whole : (P : Plan) (L : Network) (r : ℕ) (M : Network) → Rounded P L r M → RoundCall P L r M
 round_whole P L r M e = (e.0, e.1, λ G. let t = round_means P L G in (e.0 ∙ t.0, e.1 ∙ t.1))

@@ -1,14 +1,12 @@
 -- What was written when a writer fails: a front of the text, where the front of one part of it is written, or one part and the front of the next.
-use Rattle.std.proofs.Common.{◌≡◌, ℕ, suc, ◌+◌, ◌-◌, ◌/◌, ◌%◌, ◌^◌, ◌<◌, ◌≤◌, List, [], ◌∷◌, ◌++◌, length, take, drop, get_or, sym, ap, ◌∙◌, subst, append_assoc, take-append-drop, length-drop, drop-cons, arith, Result, Ok, Err, OnOk, OnErr, Bool, cond, codes, min}
+use Rattle.std.proofs.Common.{◌≡◌, ℕ, suc, ◌+◌, ◌-◌, ◌<◌, ◌≤◌, List, [], ◌∷◌, ◌++◌, length, take, drop, get_or, sym, ap, ◌∙◌, subst, append_assoc, take-append-drop, length-drop, drop-cons, arith, Result, Ok, Err, OnErr, Bool, cond, codes, min}
 use Rattle.std.proofs.Math.Seq.{take-append_seam, take-add}
 use Rattle.std.proofs.lemmas.List.{take_rest, take_min, drop_min}
 use Rattle.std.proofs.lemmas.List.Concat.{flat_map-cons}
 use Rattle.std.proofs.lemmas.Grind.{flat_map-append}
-use Rattle.std.proofs.lemmas.Result.{on_ok_weaker, on_err_weaker}
-use Rattle.std.proofs.lemmas.Fmt.{decimal_digit, decimal_step}
+use Rattle.std.proofs.lemmas.Result.{on_err_weaker}
 use Rattle.std.proofs.KnownBytes.{Appends-trans, Appends-kept}
 use Rattle.std.specs.List.{flat_map}
-use Rattle.std.specs.Fmt.{decimal}
 use Rattle.std.specs.Io.KnownBytes.{Appends, Keeps}
 use Rattle.std.specs.declared.option.Option.{Option}
 use Rattle.run_text.specs.Texts.{AppendsFront, hex_of, hex_text, spaced, alike, all_are, image_text}
@@ -40,23 +38,6 @@ pub written_none : (a b c : Option (List ℕ)) (bytes : List ℕ) (n k : ℕ) �
 written_none a b c bytes n k fits is p q =
     (omega arith, subst (λ z. Appends a c (take z bytes)) (sym is) (Appends-kept a b c _ p q))
 
--- the decimals of a number below 10, and of one of more digits
-pub digit_only : {E : Type 0} (b b' c : Option (List ℕ)) (r : Result (Unit {0}) E) (x d : ℕ) → x < 10 → d ≡ 48 + x → b' ≡ b → OnOk r (Appends b' c (d ∷ [])) → OnErr r (AppendsFront b' c (d ∷ [])) → OnOk r (Appends b c (decimal x)) × OnErr r (AppendsFront b c (decimal x))
-digit_only b b' c r x d small is same p q =
-    let e : d ∷ [] ≡ decimal x = ap (λ z. z ∷ []) is ∙ sym (decimal_digit x small) in
-    (subst (λ l. OnOk r (Appends b c l)) e (subst (λ z. OnOk r (Appends z c (d ∷ []))) same p), subst (λ l. OnErr r (AppendsFront b c l)) e (subst (λ z. OnErr r (AppendsFront z c (d ∷ []))) same q))
-
-pub digit_more : {E : Type 0} (a b b' c : Option (List ℕ)) (r : Result (Unit {0}) E) (x d : ℕ) → 10 ≤ x → x < 2 ^ 64 → d ≡ 48 + x % 10 → b' ≡ b → Appends a b (decimal (x / 10)) → OnOk r (Appends b' c (d ∷ [])) → OnErr r (AppendsFront b' c (d ∷ [])) → OnOk r (Appends a c (decimal x)) × OnErr r (AppendsFront a c (decimal x))
-digit_more a b b' c r x d large fits is same front p q =
-    let e : decimal (x / 10) ++ (d ∷ []) ≡ decimal x = ap (λ z. decimal (x / 10) ++ (z ∷ [])) is ∙ sym (decimal_step x large fits) in
-    let p' = subst (λ z. OnOk r (Appends z c (d ∷ []))) same p in
-    let q' = subst (λ z. OnErr r (AppendsFront z c (d ∷ []))) same q in
-    (subst (λ l. OnOk r (Appends a c l)) e (on_ok_weaker r (Appends-trans a b c _ _ front) p'), subst (λ l. OnErr r (AppendsFront a c l)) e (on_err_weaker r (front_behind a b c _ _ front) q'))
-
-pub digits_before : (a b : Option (List ℕ)) (x : ℕ) → 10 ≤ x → x < 2 ^ 64 → AppendsFront a b (decimal (x / 10)) → AppendsFront a b (decimal x)
-digits_before a b x large fits p =
-    subst (AppendsFront a b) (sym (decimal_step x large fits)) (front_before a b _ _ p)
-
 -- 'x' and the bytes before place i are written, and a front of byte i
 pub hex_front : (a b c d : Option (List ℕ)) (bytes : List ℕ) (i : ℕ) → i < length bytes → Appends a b (32 ∷ 120 ∷ []) → Appends b c (flat_map hex_of (take i bytes)) → AppendsFront c d (hex_of (get_or bytes i 0)) → AppendsFront a d (hex_text bytes)
 hex_front a b c d bytes i h p q f =
@@ -71,16 +52,14 @@ image_or_same image sheet = cond (alike image sheet) (spaced (codes "same")) (he
 
 -- an image's text, where the buffer's front was taken up to its end
 module _ (n end : ℕ) (buffer sheet : List ℕ) (is : end ≡ min n (length buffer)) where
-  front_is : take (end - 0) buffer ≡ take n buffer
-  front_is =
-      let here : end - 0 ≡ min n (length buffer) = omega (arith, is) in
-      ap (λ z. take z buffer) here ∙ take_min n buffer
+  front_is : take end buffer ≡ take n buffer
+  front_is = ap (λ z. take z buffer) is ∙ take_min n buffer
 
-  pub image_before : (a b : Option (List ℕ)) (rest : List ℕ) → AppendsFront a b (image_or_same (take (end - 0) buffer) sheet) → AppendsFront a b (image_text (take n buffer) rest sheet)
+  pub image_before : (a b : Option (List ℕ)) (rest : List ℕ) → AppendsFront a b (image_or_same (take end buffer) sheet) → AppendsFront a b (image_text (take n buffer) rest sheet)
   image_before a b rest p =
       front_before a b (image_or_same (take n buffer) sheet) (spaced (cond (all_are 165 rest) (codes "kept") (codes "SPOILT"))) (subst (λ l. AppendsFront a b (image_or_same l sheet)) front_is p)
 
-  pub image_behind : {E : Type 0} (a b c : Option (List ℕ)) (r : Result (Unit {0}) E) (flag : Bool) → flag ≡ all_are 165 (take (length buffer - end) (drop end buffer)) → Appends a b (image_or_same (take (end - 0) buffer) sheet) → OnErr r (AppendsFront b c (spaced (cond flag (codes "kept") (codes "SPOILT")))) → OnErr r (AppendsFront a c (image_text (take n buffer) (drop n buffer) sheet))
+  pub image_behind : {E : Type 0} (a b c : Option (List ℕ)) (r : Result (Unit {0}) E) (flag : Bool) → flag ≡ all_are 165 (take (length buffer - end) (drop end buffer)) → Appends a b (image_or_same (take end buffer) sheet) → OnErr r (AppendsFront b c (spaced (cond flag (codes "kept") (codes "SPOILT")))) → OnErr r (AppendsFront a c (image_text (take n buffer) (drop n buffer) sheet))
   image_behind a b c r flag told p q =
       let rest : take (length buffer - end) (drop end buffer) ≡ drop n buffer = take_rest buffer end ∙ ap (λ z. drop z buffer) is ∙ drop_min n buffer in
       let flag' : flag ≡ all_are 165 (drop n buffer) = told ∙ ap (all_are 165) rest in

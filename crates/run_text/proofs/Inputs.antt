@@ -8,7 +8,7 @@ use Rattle.std.specs.declared.option.Option.{Option}
 use borrow.Rule.Slice.PartMut.{put_mid, post_of}
 
 -- the first n bytes as they were, and the first m of those that the rest holds now
-front_more : (n m k : ℕ) (xs ys : List ℕ) → n ≤ length xs → m ≤ length ys → take (n + m) (put_mid n k xs ys) ≡ take n xs ++ take m ys
+pub front_more : (n m k : ℕ) (xs ys : List ℕ) → n ≤ length xs → m ≤ length ys → take (n + m) (put_mid n k xs ys) ≡ take n xs ++ take m ys
 front_more n m k xs ys fits within =
     let here : length (take n xs) ≡ n = length-take-le n xs fits in
     ap (λ z. take (z + m) (put_mid n k xs ys)) (sym here) ∙ take-append-add (take n xs) (ys ++ post_of n k xs) m ∙ ap (λ l. take n xs ++ l) (take-append-le m ys (post_of n k xs) within)

@@ -1,4 +1,5 @@
 pub mod Laws
 pub mod Fronts
 pub mod Inputs
+pub mod Lines
 pub mod One

@@ -19,6 +19,8 @@ use Rattle.run_text.proofs.put_word.Kinds as put_word-kinds
 use Rattle.run_text.proofs.put_word.Reads as put_word
 use Rattle.run_text.proofs.read_full.Kinds as read_full-kinds
 use Rattle.run_text.proofs.read_full.Reads as read_full
+use Rattle.run_text.proofs.read_line.Kinds as read_line-kinds
+use Rattle.run_text.proofs.read_line.Reads as read_line
 use Rattle.run_text.proofs.put_number.Kinds as put_number-kinds
 use Rattle.run_text.proofs.put_number.Reads as put_number
 use Rattle.run_text.proofs.put_hex.Kinds as put_hex-kinds
@@ -29,31 +31,26 @@ use Rattle.run_text.proofs.put_image.Kinds as put_image-kinds
 use Rattle.run_text.proofs.put_image.Reads as put_image
 use Rattle.base.specs.Promises.{OneResult, OneOutcome}
 use Rattle.base.specs.Lists.{fill}
-use Rattle.run_text.specs.Promises.{OneIfOk, SameRead}
+use Rattle.run_text.specs.Promises.{OneIfOk, SameRead, ReadsLine}
 use Rattle.run_text.specs.Texts.{byte_of, spaced, hex_text, image_text}
 use Rattle.run_text.proofs.find.Kinds as find-kinds
 use Rattle.run_text.proofs.find.Reads as find
 use Rattle.run_text.proofs.past.Kinds as past-kinds
 use Rattle.run_text.proofs.past.Reads as past
-use Rattle.run_text.proofs.least.Kinds as least-kinds
-use Rattle.run_text.proofs.least.Reads as least
+use Rattle.run_text.proofs.number32.Kinds as number32-kinds
+use Rattle.run_text.proofs.number32.Reads as number32
 use Rattle.run_text.proofs.unhex.Kinds as unhex-kinds
 use Rattle.run_text.proofs.unhex.Reads as unhex
 use Rattle.run_text.proofs.number.Kinds as number-kinds
 use Rattle.run_text.proofs.number.Reads as number
 use Rattle.run_text.proofs.sum_with.Kinds as sum-with-kinds
 use Rattle.run_text.proofs.sum_with.Reads as sum-with
-use Rattle.run_text.proofs.same.Kinds as same-kinds
-use Rattle.run_text.proofs.same.Reads as same
 
 pub find_one : OneResult 1 find-kinds.ps find-kinds.r find.Post
 find_one κs a r r' x x' p q = p.0 ∙ sym q.0
 
 pub past_one : OneResult 1 past-kinds.ps past-kinds.r past.Post
 past_one κs a r r' x x' p q = p.0 ∙ sym q.0
-
-pub least-one : OneResult 0 least-kinds.ps least-kinds.r least.Post
-least-one κs a r r' x x' p q = p.0 ∙ sym q.0
 
 pub unhex_one : OneOutcome 2 unhex-kinds.ps unhex-kinds.r unhex.Post (λ κs x. x.1.0.now)
 unhex_one κs a r r' x x' p q =
@@ -63,11 +60,11 @@ unhex_one κs a r r' x x' p q =
 pub number-one : OneResult 1 number-kinds.ps number-kinds.r number.Post
 number-one κs a r r' x x' p q = p ∙ sym q
 
+pub number32-one : OneResult 1 number32-kinds.ps number32-kinds.r number32.Post
+number32-one κs a r r' x x' p q = p ∙ sym q
+
 pub sum_with_one : OneResult 0 sum-with-kinds.ps sum-with-kinds.r sum-with.Post
 sum_with_one κs a r r' x x' p q = p ∙ sym q
-
-pub same-one : OneResult 2 same-kinds.ps same-kinds.r same.Post
-same-one κs a r r' x x' p q = p ∙ sym q
 
 same_text : (a b b' : Option (List ℕ)) (bs : List ℕ) → IsSome a → Appends a b bs → Appends a b' bs → b ≡ b'
 same_text None b b' bs h p q = absurd (false≢true h)
@@ -124,3 +121,23 @@ read_full_one R L G D κs a r r' x x' p q h ok ok' =
     let s = read_full.post-apart R L G D κs a r x p in
     let t = read_full.post-apart R L G D κs a r' x' q in
     same_read (length a.1.0.now) (G.remaining a.0.now) (G.remaining x.0.now) (G.remaining x'.0.now) r r' x.1.0.now x'.1.0.now h ok ok' s.bound t.bound s.read t.read s.count t.count
+
+same_line : {E : Type 0} (m : ℕ) (a b b' : Option (List ℕ)) (r r' : Result ℕ E) (bs bs' : List ℕ) → IsSome a → IsOk r → IsOk r' → IfOk r (λ n. ReadsLine m a b n (take n bs)) → IfOk r' (λ n. ReadsLine m a b' n (take n bs')) → SameRead r r' b b' bs bs'
+same_line m None b b' r r' bs bs' h ok ok' p q = absurd (false≢true h)
+same_line m (Some xs) b b' (Err e) r' bs bs' h ok ok' p q = absurd (false≢true ok)
+same_line m (Some xs) b b' (Ok n) (Err e) bs bs' h ok ok' p q = absurd (false≢true ok')
+same_line m (Some xs) b b' (Ok n) (Ok n') bs bs' h ok ok' p q =
+    let e : n ≡ n' = p.0 ∙ sym q.0 in
+    (ap Ok e, p.2 ∙ sym q.2, p.1 ∙ ap (λ z. take z xs) e ∙ sym q.1 ∙ ap (λ z. take z bs') (sym e))
+
+pub read_line_one : (R : RattleType) (L : Laws R) (G : Read.Ghosts R.Denot) (D : Dict) (κs : Lfts 3) (a : Dens κs (read_line-kinds.ps R L)) (r r' : (res_t (read_line-kinds.r R L) κs).Denot) (x x' : AtExit (ended_of 3 (read_line-kinds.ps R L) (read_line-kinds.r R L)) κs)
+    → read_line.Post R L G D κs a r x
+    → read_line.Post R L G D κs a r' x'
+    → IsSome (G.remaining a.0.now)
+    → IsOk r
+    → IsOk r'
+    → SameRead r r' (G.remaining x.0.now) (G.remaining x'.0.now) x.1.0.now x'.1.0.now
+read_line_one R L G D κs a r r' x x' p q h ok ok' =
+    let s = read_line.post-apart R L G D κs a r x p in
+    let t = read_line.post-apart R L G D κs a r' x' q in
+    same_line (length a.1.0.now) (G.remaining a.0.now) (G.remaining x.0.now) (G.remaining x'.0.now) r r' x.1.0.now x'.1.0.now h ok ok' s.read t.read

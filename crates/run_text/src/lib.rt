@@ -1,9 +1,10 @@
-// What the programs that run vectors share: words and lines of a text, hexadecimal, decimals, what is read and what is printed.
+// What programs share: words and lines of a text, hexadecimal, decimals, what is read and what is printed.
 #![tactic(auto)]
 
-ghost use Rattle.std.specs.Prelude.{◌≡◌, ℕ, ◌+◌, ◌-◌, ◌*◌, ◌/◌, ◌%◌, ◌^◌, ◌<◌, ◌≤◌, min, length, take, drop, List, cond, codes, IfSome, IfOk, OnOk, OnErr};
+ghost use Rattle.std.specs.Prelude.{◌≡◌, ℕ, ◌+◌, ◌-◌, ◌*◌, ◌/◌, ◌%◌, ◌^◌, ◌<◌, ◌≤◌, ◌++◌, min, length, take, drop, List, cond, codes, IfSome, IfOk, OnOk, OnErr};
 ghost use Rattle.base.specs.Lists.{fill};
 ghost use Rattle.run_text.specs.Texts.{first_in, digit_of, byte_of, number_on, alike, all_are, spaced, hex_digit_of, hex_of, hex_text, image_text, AppendsFront};
+ghost use Rattle.run_text.specs.Promises.{ReadsLine};
 ghost use Rattle.std.specs.Fmt.{decimal};
 ghost use Rattle.std.specs.Io.KnownBytes.{Appends, Consumes};
 ghost use Rattle.std.specs.Io.{ReadsAtMost};
@@ -15,43 +16,25 @@ use std::io::{Error, ErrorKind, Read, Write};
 pub fn find(text: &[u8], from: usize, byte: u8) -> usize
     ensures { (result ≡ from + first_in byte (drop from text.now)) × (from ≤ result) × (result ≤ from + (length text.now - from)) }
 {
-    let mut i = from;
-    while i < text.len() {
-        if text[i] == byte {
-            return i;
-        }
-        i += 1;
-    }
-    i
+    let rest = &text[from.min(text.len())..];
+    from + rest.iter().position(|x| *x == byte).unwrap_or(rest.len())
 }
 
 // The place after place i, and the text's length where there is none.
 pub fn past(text: &[u8], i: usize) -> usize
     ensures { (result ≡ min (i + 1) (length text.now)) × (result ≤ length text.now) }
 {
-    if i < text.len() { i + 1 } else { text.len() }
-}
-
-pub fn least(a: usize, b: usize) -> usize
-    ensures { (result ≡ min a b) × (result ≤ a) × (result ≤ b) }
-{
-    if a < b { a } else { b }
+    i.saturating_add(1).min(text.len())
 }
 
 // The value of a hexadecimal digit, and 0 for any other byte.
 fn digit(x: u8) -> u8
     ensures { (result ≡ digit_of x) × (result < 16) }
 {
-    if x < b'0' {
-        0
-    } else if x <= b'9' {
-        x - b'0'
-    } else if x < b'a' {
-        0
-    } else if x <= b'f' {
-        x - 87
-    } else {
-        0
+    match x {
+        b'0'..=b'9' => x - b'0',
+        b'a'..=b'f' => x - 87,
+        _ => 0,
     }
 }
 
@@ -66,11 +49,9 @@ fn byte(high: u8, low: u8) -> u8
 pub fn unhex(hex: &[u8], bytes: &mut [u8]) -> usize
     ensures { (result ≡ min (length hex.now / 2) (length bytes.old)) × (bytes.new ≡ fill (byte_of hex.now) result bytes.old) × (result ≤ length bytes.new) }
 {
-    let whole = least(hex.len() / 2, bytes.len());
-    let mut i = 0;
-    while i < whole {
+    let whole = (hex.len() / 2).min(bytes.len());
+    for i in 0..whole {
         bytes[i] = byte(hex[i * 2], hex[i * 2 + 1]);
-        i += 1;
     }
     whole
 }
@@ -79,8 +60,7 @@ pub fn unhex(hex: &[u8], bytes: &mut [u8]) -> usize
 fn with_digit(x: u64, decimal: u8) -> u64
     ensures { result ≡ (x * 10 + digit_of decimal) % 2 ^ 64 }
 {
-    let ten = std::num::wrapping_add_u64(x << 3, x << 1);
-    std::num::wrapping_add_u64(ten, digit(decimal) as u64)
+    x.wrapping_mul(10).wrapping_add(u64::from(digit(decimal)))
 }
 
 // The number that a text of decimal digits says, in 64 bits.
@@ -88,51 +68,31 @@ pub fn number(decimals: &[u8]) -> u64
     ensures { result ≡ number_on 0 decimals.now }
 {
     let mut x = 0;
-    let mut i = 0;
-    while i < decimals.len() {
-        x = with_digit(x, decimals[i]);
-        i += 1;
+    for decimal in decimals {
+        x = with_digit(x, *decimal);
     }
     x
+}
+
+// The same in 32 bits.
+pub fn number32(decimals: &[u8]) -> u32
+    ensures { result ≡ number_on 0 decimals.now % 2 ^ 32 }
+{
+    (number(decimals) % 4294967296) as u32
 }
 
 // A sum that depends on the order, with one number more: the sum so far, times 33, and the number, in 32 bits.
 pub fn sum_with(sum: u32, x: u32) -> u32
     ensures { result ≡ (sum * 33 + x) % 2 ^ 32 }
 {
-    let many = std::num::wrapping_add_u32(sum << 5, sum);
-    std::num::wrapping_add_u32(many, x)
-}
-
-// Whether two texts have the same bytes.
-pub fn same(a: &[u8], b: &[u8]) -> bool
-    ensures { result ≡ alike a.now b.now }
-{
-    if a.len() != b.len() {
-        return false;
-    }
-    let mut i = 0;
-    while i < a.len() {
-        if a[i] != b[i] {
-            return false;
-        }
-        i += 1;
-    }
-    true
+    sum.wrapping_mul(33).wrapping_add(x)
 }
 
 // Whether every byte is the given one.
 fn untouched(a: &[u8], filler: u8) -> bool
     ensures { result ≡ all_are filler a.now }
 {
-    let mut i = 0;
-    while i < a.len() {
-        if a[i] != filler {
-            return false;
-        }
-        i += 1;
-    }
-    true
+    a.iter().all(|x| *x == filler)
 }
 
 // The functions that print take the writer to print on. On Ok it holds the whole text behind what it held. An error is the writer's own,
@@ -173,17 +133,14 @@ pub fn put_word<W: Write>(out: &mut W, word: &[u8]) -> io::Result<()>
     put_all(out, word)
 }
 
-// The decimals of a number: those of its tenth, and its last digit.
-fn put_digits<W: Write>(out: &mut W, x: u64) -> io::Result<()>
-    ensures done { IfOk result (λ r. r ≡ tt) }
-    ensures printed { OnOk result (Appends (W.contents out.old) (W.contents out.new) (decimal x)) }
-    ensures failed { OnErr result (AppendsFront (W.contents out.old) (W.contents out.new) (decimal x)) }
+// Puts the decimals of x behind the first byte of a text, those of its tenth and its last digit, and gives where they end. `write!`
+// does not say what an error leaves.
+fn put_digits(text: &mut [u8; 21], x: u64) -> usize
+    ensures { (result ≡ 1 + length (decimal x)) × (take result text.new ≡ take 1 text.old ++ decimal x) }
 {
-    let front = x / 10;
-    if front > 0 {
-        put_digits(out, front)?;
-    }
-    put_all(out, &[b'0' + (x % 10) as u8])
+    let end = if 9 < x { put_digits(text, x / 10) } else { 1 };
+    text[end] = b'0' + (x % 10) as u8;
+    end + 1
 }
 
 // Prints a number in decimals, after a space.
@@ -192,8 +149,9 @@ pub fn put_number<W: Write>(out: &mut W, x: u64) -> io::Result<()>
     ensures printed { OnOk result (Appends (W.contents out.old) (W.contents out.new) (spaced (decimal x))) }
     ensures failed { OnErr result (AppendsFront (W.contents out.old) (W.contents out.new) (spaced (decimal x))) }
 {
-    put_all(out, &[b' '])?;
-    put_digits(out, x)
+    let mut text = [b' '; 21];
+    let end = put_digits(&mut text, x);
+    put_all(out, &text[..end])
 }
 
 // The hexadecimal digit of a number below 16.
@@ -218,10 +176,8 @@ pub fn put_hex<W: Write>(out: &mut W, a: &[u8]) -> io::Result<()>
     ensures failed { OnErr result (AppendsFront (W.contents out.old) (W.contents out.new) (hex_text a.now)) }
 {
     put_word(out, b"x")?;
-    let mut i = 0;
-    while i < a.len() {
-        put_byte(out, a[i])?;
-        i += 1;
+    for x in a {
+        put_byte(out, *x)?;
     }
     Ok(())
 }
@@ -240,11 +196,12 @@ pub fn put_either<W: Write>(out: &mut W, first: bool, word: &[u8], other: &[u8])
 }
 
 // Prints an image, as the word `same` where it is the sheet, and else its bytes.
+#[tactic(auto, using(crate::proofs::Laws::alike_same))]
 fn put_same<W: Write>(out: &mut W, image: &[u8], sheet: &[u8]) -> io::Result<()>
     ensures printed { OnOk result (Appends (W.contents out.old) (W.contents out.new) (cond (alike image.now sheet.now) (spaced (codes "same")) (hex_text image.now))) }
     ensures failed { OnErr result (AppendsFront (W.contents out.old) (W.contents out.new) (cond (alike image.now sheet.now) (spaced (codes "same")) (hex_text image.now))) }
 {
-    if same(image, sheet) {
+    if image == sheet {
         put_word(out, b"same")
     } else {
         put_hex(out, image)
@@ -265,13 +222,14 @@ pub fn put_image<W: Write>(
     ensures failed { OnErr result (AppendsFront (W.contents out.old) (W.contents out.new)
         (image_text (take length buffer.now) (drop length buffer.now) sheet.now)) }
 {
-    let end = least(length, buffer.len());
-    put_same(out, &buffer[0..end], sheet)?;
+    let end = length.min(buffer.len());
+    put_same(out, &buffer[..end], sheet)?;
     put_either(out, untouched(&buffer[end..], 0xA5), b"kept", b"SPOILT")
 }
 
 // Reads into `bytes` until they are full or the input ends, and gives how many bytes it put at their front. An error is the reader's own:
 // what was read before it is lost, and the reader has the rest.
+// `read_exact` of the library refuses an input that ends early, and does not say how many bytes it had. The place goes on by as many bytes as a read gives.
 pub fn read_full<R: Read>(input: &mut R, bytes: &mut [u8]) -> io::Result<usize>
     ensures bound { ReadsAtMost result bytes.new }
     ensures read { IfOk result (λ n. Consumes (R.remaining input.old) (R.remaining input.new) (take n bytes.new)) }
@@ -287,4 +245,22 @@ pub fn read_full<R: Read>(input: &mut R, bytes: &mut [u8]) -> io::Result<usize>
         n += more;
     }
     Ok(n)
+}
+
+// Puts the next line of the input into `line`, without its end, as far as there is room, and gives its length: 0 where there is none. An error is the
+// reader's own: the front of the line is lost, and the reader has the rest.
+pub fn read_line<R: Read>(input: &mut R, line: &mut [u8]) -> io::Result<usize>
+    ensures bound { ReadsAtMost result line.new }
+    ensures read { IfOk result (λ n. ReadsLine (length line.old) (R.remaining input.old) (R.remaining input.new) n (take n line.new)) }
+    ensures failed { OnErr result ((bs : List ℕ) × Consumes (R.remaining input.old) (R.remaining input.new) bs) }
+{
+    for i in 0..line.len() {
+        if read_full(input, &mut line[i..i + 1])? == 0 {
+            return Ok(i);
+        }
+        if line[i] == b'\n' {
+            return Ok(i);
+        }
+    }
+    Ok(line.len())
 }

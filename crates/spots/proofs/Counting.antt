@@ -4,11 +4,10 @@ use mathlib.Core.Path.{◌≡◌, refl, sym, ◌∙◌, ap}
 use mathlib.Core.Bool.{Bool, true, false, cond, ◌&&◌}
 use mathlib.Core.List.{List}
 use mathlib.Core.Logic.{by_cases}
-use Prim.Native.Nat.{ℕ, zero, suc, ◌+◌, ◌%◌, ◌^◌, ◌<◌, ◌≤◌, min}
+use Prim.Native.Nat.{ℕ, suc, ◌+◌, ◌%◌, ◌^◌, ◌<◌, ◌≤◌, min}
 use native.Mathlib.Decide.{dec_lt}
 use native.Mathlib.Omega.{arith}
 use borrow.Author.Tests.{eqb-true, ne_eqb, lt-ltb, le-ltb}
-use lib.Dec.{eqb, ltb}
 use lib.ListN.{length, get_or}
 use lib.Seq.{ext_get_or}
 use Rattle.base.specs.Checks.{AllGood}
@@ -25,7 +24,7 @@ use Rattle.queues.specs.Found.{found}
 use Rattle.cut.specs.declared.Cut.{Cut}
 use Rattle.cut.specs.Checks.{cut_checks}
 use Rattle.nets.specs.Lists.{tab}
-use Rattle.nets.specs.Net.{Net, Seen}
+use Rattle.nets.specs.Net.{Net}
 use Rattle.nets.specs.State.{State, present}
 use Rattle.nets.specs.Actions.{next_of}
 use Rattle.nets.specs.Stored.{held_of, counts_of}

@@ -2,14 +2,13 @@
 use mathlib.Core.Path.{◌≡◌, refl, sym, ◌∙◌, ap, ap₂, subst, fun_ext}
 use mathlib.Core.Bool.{Bool, true, false, cond, not, ◌&&◌, and-false}
 use mathlib.Core.List.{List, tail, Memᴰ}
-use mathlib.Core.Logic.{by_cases, ◌≢◌, inl}
-use Prim.Native.Nat.{ℕ, zero, suc, ◌+◌, ◌<◌, ◌≤◌}
+use mathlib.Core.Logic.{by_cases, ◌≢◌}
+use Prim.Native.Nat.{ℕ, zero, suc, ◌<◌}
 use native.Mathlib.Decide.{dec_lt, ℕ_discrete}
 use native.Mathlib.Omega.{arith}
 use borrow.Author.Tests.{eq-eqb, ne_eqb, lt-ltb, le-ltb, ltb-true}
 use lib.Dec.{eqb, ltb}
 use Rattle.cycles.specs.Drawings.{Kind, input, register, oper, operands}
-use Rattle.nets.specs.Lists.{at}
 use Rattle.nets.specs.Net.{Net, Good, Seen}
 use Rattle.nets.specs.State.{State, present}
 use Rattle.nets.specs.Actions.{finish, ready, within, next_of, done, step}

@@ -7,7 +7,7 @@ use Prim.Native.Nat.{ℕ, zero, suc, ◌+◌, ◌*◌, ◌<◌, ◌≤◌}
 use native.Mathlib.Decide.{dec_lt, ℕ_discrete}
 use native.Mathlib.Omega.{arith}
 use lib.Dec.{ltb}
-use lib.ListN.{length, get_or, set, length-set}
+use lib.ListN.{length, get_or, length-set}
 use lib.Seq.{get_or-set_same, get_or-set_other}
 use Rattle.base.specs.Checks.{AllGood}
 use Rattle.netlist.specs.declared.Netlist.{Netlist}
@@ -24,7 +24,7 @@ use Rattle.nets.proofs.Stores.{head_at, used_at}
 use Rattle.nets.proofs.Turns.{right-none}
 use Rattle.evals.specs.Passes.{tokens_in, tokens_there}
 use Rattle.plans.specs.Plans.{nowhere}
-use Rattle.puts.specs.Puts.{Pass, mk_pass}
+use Rattle.puts.specs.Puts.{mk_pass}
 use Rattle.spots.proofs.Passing.{Sees}
 use Rattle.spots.proofs.Putting.{Holds}
 use Rattle.spots.proofs.Marking.{some_is}

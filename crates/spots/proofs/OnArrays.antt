@@ -2,10 +2,10 @@
 use mathlib.Core.Path.{◌≡◌, refl, sym, ◌∙◌, ap, ap₂, subst}
 use mathlib.Core.Bool.{Bool, true, false}
 use mathlib.Core.List.{List}
-use Prim.Native.Nat.{ℕ, zero, suc, ◌+◌, ◌-◌, ◌^◌, ◌<◌, ◌≤◌, min}
+use Prim.Native.Nat.{ℕ, zero, suc, ◌+◌, ◌-◌, ◌^◌, ◌<◌, min}
 use native.Mathlib.Omega.{arith}
 use native.Mathlib.Nat.{zero-add}
-use lib.ListN.{length, get_or, set, replicate, length-set, length-replicate}
+use lib.ListN.{get_or, replicate, length-set, length-replicate}
 use lib.Seq.{get_or-set_same, get_or-set_other}
 use Rattle.base.specs.Checks.{AllGood}
 use Rattle.base.specs.Lists.{fill}
@@ -26,10 +26,10 @@ use Rattle.evals.specs.Passes.{tokens_in, tokens_there}
 use Rattle.finishes.specs.Finishes.{next_held, next_count, used_after, cells_after, flags_after, finished, finishing}
 use Rattle.plans.specs.declared.Plan.{Plan}
 use Rattle.plans.specs.Plans.{nowhere, plan_of}
-use Rattle.puts.specs.Puts.{Pass, mk_plan, mk_pass, puts_done}
-use Rattle.spots.specs.declared.Network.{Network}
+use Rattle.puts.specs.Puts.{channels_end, rules_of, Pass, mk_plan, mk_pass, puts_done}
+use Rattle.lanes.specs.declared.Network.{Network}
 use Rattle.spots.specs.Stores.{net_in, store_of}
-use Rattle.spots.specs.Rounds.{no_vals, no_mets, fields_of, channels_end, first_pass, rules_of, puts_on, finished_on, all_puts, round_on, fired_on}
+use Rattle.spots.specs.Rounds.{no_vals, no_mets, fields_of, first_pass, puts_on, finished_on, all_puts, round_on, fired_on}
 use Rattle.spots.proofs.Loading.{Blank, holds-first}
 use Rattle.spots.proofs.Putting.{Holds}
 use Rattle.spots.proofs.Phases.{asked}
@@ -65,10 +65,6 @@ module _ (n : Netlist) (c : Cut) (g : AllGood (net_checks n)) (h : AllGood (cut_
 
   abbrev done : RoundDone n c g h limit small s K S (holds-first n c g h limit s K no_vals no_mets blank)
   done = round-done n c g h limit small s K S (holds-first n c g h limit s K no_vals no_mets blank)
-
-  queues_at : P.queues ≡ net.queues
-  unfolding plan_of found
-  queues_at = refl
 
   channels-end : channels_end P ≡ net.queues - net.outs
   unfolding plan_of found

@@ -1,15 +1,14 @@
 -- The put rules of a round on the arrays are those of the network, one after the other. What is found for the nodes so far is right in the present state, what
 -- is found for the queues are their oldest tokens, and each turn keeps both: a node evaluated, a rule tried.
 use mathlib.Core.Path.{◌≡◌, refl, sym, ◌∙◌, ap, subst}
-use mathlib.Core.Bool.{Bool, true, false, cond, not, ◌&&◌}
-use mathlib.Core.List.{List, [], ◌∷◌, ◌++◌}
-use mathlib.Core.Logic.{by_cases, ⊎_elim}
-use Prim.Native.Nat.{ℕ, zero, suc, ◌+◌, ◌-◌, ◌*◌, ◌%◌, ◌<◌, ◌≤◌, min, max}
-use native.Mathlib.Decide.{dec_lt, ℕ_discrete}
+use mathlib.Core.Bool.{Bool, true, false, cond}
+use mathlib.Core.List.{List}
+use mathlib.Core.Logic.{by_cases}
+use Prim.Native.Nat.{ℕ, zero, suc, ◌+◌, ◌<◌, ◌≤◌}
+use native.Mathlib.Decide.{ℕ_discrete}
 use native.Mathlib.Nat.{add-zero}
 use native.Mathlib.Omega.{arith}
-use borrow.Author.Tests.{eq-eqb, ne_eqb, lt-ltb}
-use lib.Dec.{eqb, ltb}
+use borrow.Author.Tests.{eq-eqb, ne_eqb}
 use lib.ListN.{length, get_or, set, length-set}
 use lib.Seq.{get_or-set_same, get_or-set_other}
 use Rattle.base.specs.Checks.{AllGood}
@@ -22,8 +21,8 @@ use Rattle.cut.specs.declared.Cut.{Cut}
 use Rattle.cut.specs.Checks.{cut_checks}
 use Rattle.nets.specs.Lists.{at}
 use Rattle.nets.specs.Net.{Net}
-use Rattle.nets.specs.State.{State, some_token, present, needs_met}
-use Rattle.nets.specs.Stored.{cells_of, used_of, flags_of, held_of, counts_of}
+use Rattle.nets.specs.State.{State, some_token}
+use Rattle.nets.specs.Stored.{held_of}
 use Rattle.nets.specs.Networks.{network_of}
 use Rattle.nets.specs.Passed.{value_by, met_by}
 use Rattle.nets.proofs.Turns.{Right, right-node}

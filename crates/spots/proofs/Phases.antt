@@ -1,26 +1,23 @@
 -- All put rules of a round on the arrays are the network's, tried in their order: before each rule the nodes up to its own are evaluated, and channels stand in
 -- node order, so that no rule needs fewer nodes than one before it.
 use mathlib.Core.Path.{◌≡◌, refl, sym, ◌∙◌, ap, subst}
-use mathlib.Core.Bool.{Bool, true, false, cond}
-use mathlib.Core.List.{List}
+use mathlib.Core.Bool.{cond}
 use mathlib.Core.Logic.{by_cases}
 use Prim.Native.Nat.{ℕ, zero, suc, ◌+◌, ◌-◌, ◌<◌, ◌≤◌, min, max}
 use native.Mathlib.Decide.{dec_lt}
 use native.Mathlib.Nat.{add-zero}
 use native.Mathlib.Omega.{arith}
 use borrow.Author.Tests.{lt-ltb, le-ltb}
-use lib.Dec.{ltb}
-use lib.ListN.{length, get_or}
+use lib.ListN.{get_or}
 use Rattle.base.specs.Checks.{AllGood}
 use Rattle.base.proofs.Verdicts.{whole-good}
 use Rattle.netlist.specs.declared.Netlist.{Netlist}
 use Rattle.netlist.specs.Checks.{numbers_good, net_checks}
 use Rattle.netlist.proofs.Numbers.{Within, within}
-use Rattle.queues.specs.Found.{found}
 use Rattle.cut.specs.declared.Cut.{Cut}
 use Rattle.cut.specs.Checks.{cut_checks}
 use Rattle.nets.specs.Lists.{bit, tab}
-use Rattle.nets.specs.Net.{Net, Good}
+use Rattle.nets.specs.Net.{Net}
 use Rattle.nets.specs.State.{State}
 use Rattle.nets.specs.Actions.{put, ready, done, step, play}
 use Rattle.nets.specs.Rounds.{rule, fired_by, after_rules}
@@ -31,11 +28,8 @@ use Rattle.nets.proofs.InOrder.{channels_in_order}
 use Rattle.nets.proofs.Facts.{split-on}
 use Rattle.nets.proofs.Rounds.{play-next, fired-next, rule-low}
 use Rattle.nets.proofs.Stores.{put_rest}
-use Rattle.plans.specs.declared.Plan.{Plan}
-use Rattle.plans.specs.Plans.{plan_of}
 use Rattle.evals.specs.Passes.{vals_after, mets_after}
-use Rattle.puts.specs.Puts.{Plan as Rules, Pass, mk_plan, needed, evaluated, put_tried, puts_after, puts_done}
-use Rattle.spots.specs.Rounds.{fields_of}
+use Rattle.puts.specs.Puts.{Plan as Rules, Pass, needed, evaluated, put_tried, puts_after, puts_done}
 use Rattle.spots.proofs.Passing.{Sees, see_nodes}
 use Rattle.spots.proofs.Putting.{rules, Holds, Tried, put-turn, node-low, node-raw}
 

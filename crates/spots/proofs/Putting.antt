@@ -4,12 +4,12 @@ use mathlib.Core.Path.{◌≡◌, refl, sym, ◌∙◌, ap, subst}
 use mathlib.Core.Bool.{Bool, true, false, cond, not, ◌&&◌}
 use mathlib.Core.List.{List, [], ◌∷◌, ◌++◌}
 use mathlib.Core.Logic.{by_cases}
-use Prim.Native.Nat.{ℕ, zero, suc, ◌+◌, ◌-◌, ◌*◌, ◌%◌, ◌<◌, ◌≤◌}
+use Prim.Native.Nat.{ℕ, suc, ◌+◌, ◌*◌, ◌%◌, ◌<◌, ◌≤◌}
 use native.Mathlib.Decide.{ℕ_discrete}
 use native.Mathlib.Nat.{add-zero}
 use native.Mathlib.Omega.{arith}
 use borrow.Author.Tests.{eq-eqb, ne_eqb, lt-ltb, ltb-true}
-use lib.Dec.{eqb, ltb}
+use lib.Dec.{ltb}
 use lib.ListN.{length, get_or, set, length-set}
 use lib.Seq.{get_or-set_same, get_or-set_other}
 use Rattle.base.specs.Checks.{AllGood}
@@ -18,26 +18,23 @@ use Rattle.base.proofs.Verdicts.{whole-good}
 use Rattle.netlist.specs.declared.Netlist.{Netlist}
 use Rattle.netlist.specs.Checks.{numbers_good, net_checks}
 use Rattle.netlist.proofs.Numbers.{Within, within}
-use Rattle.queues.specs.Queues.{parts_of, queues_of}
 use Rattle.queues.specs.Found.{found}
 use Rattle.queues.proofs.Arrays.{node_at, from_at}
 use Rattle.cut.specs.declared.Cut.{Cut}
-use Rattle.cut.specs.Cuts.{depth_of}
 use Rattle.cut.specs.Checks.{cut_checks}
 use Rattle.lanes.specs.Lanes.{push_cells, push_used}
-use Rattle.nets.specs.Lists.{at, bit}
-use Rattle.nets.specs.Net.{Net, Good}
-use Rattle.nets.specs.State.{State, some_token, present, needs_met}
+use Rattle.nets.specs.Lists.{bit}
+use Rattle.nets.specs.Net.{Net}
+use Rattle.nets.specs.State.{State, some_token, present}
 use Rattle.nets.specs.Actions.{put, room, ready, done, step}
 use Rattle.nets.specs.Stored.{cells_of, used_of, flags_of, held_of, counts_of}
 use Rattle.nets.specs.Networks.{network_of}
-use Rattle.nets.specs.Kept.{Kept}
 use Rattle.nets.proofs.Goods.{good, few, few-queues, depths}
 use Rattle.nets.proofs.Stores.{head_at, used_at, flag_at, count_at, put-cells, put-used, put-flags}
 use Rattle.nets.proofs.Turns.{Right, right-put, put-value, put_test_lem}
 use Rattle.plans.specs.declared.Plan.{Plan}
 use Rattle.plans.specs.Plans.{nowhere, plan_of}
-use Rattle.puts.specs.Puts.{Plan as Rules, Pass, mk_pass, mk_plan, put_ready, put_done, put_tried}
+use Rattle.puts.specs.Puts.{Plan as Rules, Pass, mk_plan, put_ready, put_done, put_tried}
 use Rattle.spots.specs.Rounds.{fields_of}
 use Rattle.spots.proofs.Passing.{Sees}
 

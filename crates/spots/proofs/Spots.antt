@@ -1,14 +1,14 @@
 -- What a node reads by its plan is what the network's definition reads: a used field at its operand's own place where that is in the reader's part, and at the
 -- oldest token of its channel elsewhere. By what the queues' maps say: none, or the channel's place, which is below 512.
-use mathlib.Core.Path.{◌≡◌, refl, sym, ◌∙◌, ap}
-use mathlib.Core.Bool.{Bool, true, false, cond, not, ◌&&◌, ◌||◌, or-true}
+use mathlib.Core.Path.{◌≡◌, refl, ◌∙◌, ap}
+use mathlib.Core.Bool.{Bool, true, false, cond, not, or-true}
 use mathlib.Core.List.{List, [], ◌∷◌}
-use Prim.Native.Nat.{ℕ, zero, suc, ◌+◌, ◌%◌, ◌<◌, ◌≤◌}
+use Prim.Native.Nat.{ℕ, zero, suc, ◌+◌, ◌%◌, ◌<◌}
 use native.Mathlib.Nat.{not-suc-le-zero}
 use native.Mathlib.Omega.{arith}
 use borrow.Author.Tests.{eqb-false, eq-eqb, ne_eqb, lt-ltb}
 use lib.Dec.{eqb, ltb}
-use lib.ListN.{length, get_or, take, replicate, length-replicate}
+use lib.ListN.{get_or, take, replicate, length-replicate}
 use Rattle.base.specs.Checks.{AllGood}
 use Rattle.base.specs.Lists.{fill}
 use Rattle.base.proofs.Fill.{fill_at}

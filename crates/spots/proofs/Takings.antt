@@ -8,7 +8,7 @@ use Prim.Native.Nat.{ℕ, zero, suc, ◌+◌, ◌-◌, ◌*◌, ◌%◌, ◌<◌
 use native.Mathlib.Decide.{ℕ_discrete}
 use native.Mathlib.Omega.{arith}
 use borrow.Author.Tests.{eq-eqb, ne_eqb, lt-ltb, le-ltb}
-use lib.Dec.{eqb, ltb}
+use lib.Dec.{ltb}
 use lib.ListN.{length, get_or, set}
 use Rattle.base.specs.Checks.{AllGood}
 use Rattle.netlist.specs.declared.Netlist.{Netlist}
@@ -29,7 +29,7 @@ use Rattle.nets.proofs.Goods.{good, few-queues, depths, ends-few}
 use Rattle.nets.proofs.Ready.{Finishes}
 use Rattle.nets.proofs.Tables.{get_d_tab, tab-same, set-tab, shifted}
 use Rattle.nets.proofs.Changes.{all_at, changed-none, changed-yes, changed_no, changed-all, cells_same, lengths-same, taken_here, cells-none, cells-yes, cells_no, used-none, used-yes, used_no}
-use Rattle.finishes.specs.Finishes.{part_in, take_if, used_after, cells_after, flags_after}
+use Rattle.finishes.specs.Finishes.{part_in, used_after, cells_after, flags_after}
 use Rattle.plans.specs.declared.Plan.{Plan}
 use Rattle.plans.specs.Plans.{plan_of}
 use Rattle.spots.proofs.Marking.{and_on}

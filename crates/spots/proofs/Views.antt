@@ -1,18 +1,17 @@
 -- What one pass computes for a node by its plan is what the network's definition says of the records' fields. Field by field, where the code uses it.
-use mathlib.Core.Path.{◌≡◌, refl, sym, ◌∙◌, ap}
-use mathlib.Core.Bool.{Bool, true, false, cond, not, ◌&&◌}
-use mathlib.Core.List.{List, [], ◌∷◌}
-use Prim.Native.Nat.{ℕ, zero, suc, ◌+◌, ◌%◌, ◌<◌, ◌≤◌}
+use mathlib.Core.Path.{◌≡◌, refl, ◌∙◌, ap}
+use mathlib.Core.Bool.{Bool, true, false, cond, ◌&&◌}
+use mathlib.Core.List.{List}
+use Prim.Native.Nat.{ℕ, ◌+◌, ◌%◌, ◌<◌, ◌≤◌}
 use native.Mathlib.Omega.{arith}
 use borrow.Author.Tests.{lt-ltb, ltb-true}
 use lib.Dec.{eqb, ltb}
-use lib.ListN.{length, get_or, take, replicate, length-replicate}
+use lib.ListN.{length, get_or, replicate, length-replicate}
 use Rattle.base.specs.Checks.{AllGood}
 use Rattle.base.specs.Lists.{fill}
 use Rattle.base.proofs.Fill.{fill_at}
 use Rattle.base.proofs.Verdicts.{whole-good}
 use Rattle.codes.specs.Rows.{is_in, is_reg, count_of}
-use Rattle.codes.specs.Records.{operands_in}
 use Rattle.codes.specs.declared.Record.{Record}
 use Rattle.codes.proofs.Apart.{field_below}
 use Rattle.netlist.specs.declared.Netlist.{Netlist}
@@ -37,7 +36,7 @@ use Rattle.nets.proofs.Goods.{few-queues}
 use Rattle.nets.proofs.Stores.{held_at}
 use Rattle.evals.specs.Passes.{spot, value_now, met_now}
 use Rattle.plans.specs.declared.Plan.{Plan}
-use Rattle.plans.specs.Plans.{token_at, nowhere, spot_of, first_spot, join_of, plan_of}
+use Rattle.plans.specs.Plans.{nowhere, spot_of, first_spot, join_of, plan_of}
 use Rattle.spots.specs.Rounds.{fields_of}
 use Rattle.spots.proofs.Spots.{first_operand, second_operand, third_operand, read_is}
 

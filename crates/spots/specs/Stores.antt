@@ -14,7 +14,7 @@ use Rattle.nets.specs.Stored.{cells_of, used_of, flags_of, held_of, counts_of}
 use Rattle.nets.specs.Kept.{Reached}
 use Rattle.plans.specs.declared.Plan.{Plan}
 use Rattle.plans.specs.Plans.{plan_of}
-use Rattle.spots.specs.declared.Network.{Network}
+use Rattle.lanes.specs.declared.Network.{Network}
 
 -- a network from its arrays, and the one that holds a state
 abbrev pub net_in : List ℕ → List ℕ → List Bool → List ℕ → List ℕ → Network
@@ -22,32 +22,6 @@ net_in cells used flag held count = record { cells = cells; used = used; flag = 
 
 abbrev pub store_of : State → Network
 store_of s = net_in (cells_of s) (used_of s) (flags_of s) (held_of s) (counts_of s)
-
--- a plan from its numbers and arrays
-abbrev pub plan_in : ℕ → ℕ → ℕ → ℕ → ℕ → ℕ → ℕ → ℕ → List ℕ → List ℕ → List ℕ → List ℕ → List ℕ → List ℕ → List ℕ → List ℕ → List ℕ → List ℕ → List ℕ → List ℕ → Plan
-plan_in limit nodes parts inputs channels outputs queues rules code width join k ra rb rc part node from into depth =
-    record {
-      limit = limit;
-      nodes = nodes;
-      parts = parts;
-      inputs = inputs;
-      channels = channels;
-      outputs = outputs;
-      queues = queues;
-      rules = rules;
-      code = code;
-      width = width;
-      join = join;
-      k = k;
-      ra = ra;
-      rb = rb;
-      rc = rc;
-      part = part;
-      node = node;
-      from = from;
-      into = into;
-      depth = depth;
-    }
 
 -- The plan P and the arrays L are those of a drawing n cut by c with a cycle limit, in the state s.
 pub record Given (P : Plan) (L : Network) : Type 0 where

@@ -1,6 +1,5 @@
 -- Each promise determines its result, and what it leaves in the lists that are lent: stated of the contracts as the source has them.
 use mathlib.Core.Path.{◌≡◌, refl, sym, ◌∙◌}
-use Prim.Native.Nat.{ℕ}
 use seplogic.Ra.Ura.{Ura}
 use base.Logic.{SProp}
 use prog.Memory.{Memory}

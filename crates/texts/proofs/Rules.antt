@@ -7,7 +7,7 @@ use native.Mathlib.Omega.{arith}
 use borrow.Author.Tests.{leb-true, ltb-true}
 use lib.Dec.{ltb, leb}
 use lib.ListN.{length}
-use Rattle.base.specs.declared.Check.TheVariants.{Good, Bad}
+use Rattle.std.specs.Prelude.{None, Some}
 use Rattle.base.proofs.Tests.{and_left, and_right, and_four}
 use Rattle.layout.specs.Labels.{entry_node, entry_length, entry_end, text_good, entry_good, label_check, Reached}
 use Rattle.layout.proofs.Meaning.{label-bad}
@@ -39,16 +39,16 @@ rule nodes least s i e =
     }
 
 module _ (nodes : ℕ) (s : List ℕ) where
-  good_on : {e i least : ℕ} → (b : Bool) → entry_good nodes least s i ≡ b → label_check nodes s ≡ Good → Reached nodes s e i least → i < length s → entry_good nodes least s i ≡ true
+  good_on : {e i least : ℕ} → (b : Bool) → entry_good nodes least s i ≡ b → label_check nodes s ≡ None → Reached nodes s e i least → i < length s → entry_good nodes least s i ≡ true
   good_on true q g r h = q
   good_on {e} {i} {least} false q g r h =
-      let f : label_check nodes s ≡ Bad e = (label-bad nodes s e).1 (record { byte = i; least = least; reached = r; inside = h; bad = q }) in
+      let f : label_check nodes s ≡ Some e = (label-bad nodes s e).1 (record { byte = i; least = least; reached = r; inside = h; bad = q }) in
       let z : ◌≡◌ {A = ℕ} 0 1 = cc in
       let y : ⊥ = omega arith in
       absurd y
 
-  pub good-here : (e i least : ℕ) → label_check nodes s ≡ Good → Reached nodes s e i least → i < length s → entry_good nodes least s i ≡ true
+  pub good-here : (e i least : ℕ) → label_check nodes s ≡ None → Reached nodes s e i least → i < length s → entry_good nodes least s i ≡ true
   good-here e i least g r h = good_on (entry_good nodes least s i) refl g r h
 
-  pub rule-here : (e i least : ℕ) → label_check nodes s ≡ Good → Reached nodes s e i least → i < length s → Rule nodes least s i
+  pub rule-here : (e i least : ℕ) → label_check nodes s ≡ None → Reached nodes s e i least → i < length s → Rule nodes least s i
   rule-here e i least g r h = rule nodes least s i (good-here e i least g r h)

@@ -1,22 +1,14 @@
 -- A turn of the walk over the entries: the entry has the node, has another, or is cut off. An entry takes at least three bytes, so the bytes that are left are always turns enough.
 use mathlib.Core.Path.{◌≡◌, refl, ap}
-use mathlib.Core.Bool.{Bool, true, false, cond}
+use mathlib.Core.Bool.{cond}
 use mathlib.Core.List.{List}
 use Prim.Native.Nat.{ℕ, zero, suc, ◌+◌, ◌-◌, ◌<◌, ◌≤◌}
 use native.Mathlib.Omega.{arith}
-use borrow.Author.Tests.{lt-leb, le-leb, leb-true, leb-false, eq-eqb, ne_eqb}
+use borrow.Author.Tests.{lt-leb, le-leb, eq-eqb, ne_eqb}
 use lib.Dec.{eqb, leb}
 use lib.ListN.{length}
-use Rattle.layout.specs.Labels.{entry_node, entry_length, entry_end}
+use Rattle.layout.specs.Labels.{entry_node, entry_end}
 use Rattle.texts.specs.Texts.{no_text, text_at, text_from, text_of}
-
--- the entry's end, compared by what is left of the section
-left_on : (s : List ℕ) (i : ℕ) → i + 3 ≤ length s → (b : Bool) → leb (entry_end s i) (length s) ≡ b → leb (entry_length s i) (length s - i - 3) ≡ b
-left_on s i h true e = le-leb (entry_length s i) (length s - i - 3) (omega (arith, leb-true (entry_end s i) (length s) e))
-left_on s i h false e = lt-leb (entry_length s i) (length s - i - 3) (omega (arith, leb-false (entry_end s i) (length s) e))
-
-pub left_is : (s : List ℕ) (i : ℕ) → i + 3 ≤ length s → leb (entry_length s i) (length s - i - 3) ≡ leb (entry_end s i) (length s)
-left_is s i h = left_on s i h (leb (entry_end s i) (length s)) refl
 
 module _ (s : List ℕ) (node : ℕ) where
   pub text_cut : (d i : ℕ) → length s < entry_end s i → text_from d s node i ≡ no_text

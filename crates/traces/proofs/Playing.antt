@@ -1,38 +1,27 @@
 -- A line and a byte, by their cases: each law takes what the calls promise, and gives what the line or the byte promises.
 use mathlib.Core.Path.{◌≡◌, refl, sym, ap, ◌∙◌}
-use mathlib.Core.Bool.{Bool, true, false, cond, ◌&&◌}
+use mathlib.Core.Bool.{Bool, true, false, cond}
 use mathlib.Core.List.{List, []}
-use Prim.Native.Nat.{ℕ, ◌+◌, ◌≤◌}
-use native.Mathlib.Omega.{arith}
-use borrow.Author.Tests.{leb-true, leb-false, le-leb}
+use Prim.Native.Nat.{ℕ, ◌+◌}
+use borrow.Author.Tests.{eqb-true, clash}
 use lib.Dec.{eqb, leb}
 use lib.ListN.{length}
 use Rattle.base.proofs.Patch.{patch-none}
 use Rattle.base.specs.Lists.{patch}
 use Rattle.layout.specs.Write.{placed}
 use Rattle.plans.specs.declared.Plan.{Plan}
-use Rattle.spots.specs.declared.Network.{Network}
+use Rattle.lanes.specs.declared.Network.{Network}
 use Rattle.spots.specs.Rounds.{round_on, fired_on}
 use Rattle.rounds.specs.Runs.{Rounded}
-use Rattle.orders.specs.declared.Acted.{Acted}
+use Rattle.std.specs.Prelude.{Result, Ok, Err}
+use Rattle.refusals.specs.declared.Refusal.{Refusal}
+use Rattle.refusals.specs.Numbers.{number}
+use Rattle.refusals.proofs.Numbers.{number_some}
 use Rattle.orders.specs.Orders.{entry_of, ActOn, act_on, Acts}
 use Rattle.lines.specs.declared.Reading.{Reading}
 use Rattle.lines.specs.Commands.{nothing, byte_read, is_command}
 use Rattle.lines.specs.Answers.{answer_text, value_text}
 use Rattle.traces.specs.Traces.{LineOn, line_of, act_text, line_on, LinePlayed, byte_on, BytePlayed}
-
--- ---- room
-
-pub same-leb : (a b c d : ℕ) → (a ≤ b → c ≤ d) → (c ≤ d → a ≤ b) → leb a b ≡ leb c d
-same-leb a b c d f g = go (leb c d) refl
-  where
-    go : (t : Bool) → leb c d ≡ t → leb a b ≡ t
-    go true e = le-leb a b (g (leb-true c d e))
-    go false e = go' (leb a b) refl
-      where
-        go' : (u : Bool) → leb a b ≡ u → leb a b ≡ false
-        go' false h = h
-        go' true h = let y : ⊥ = omega (arith, f (leb-true a b h), leb-false c d e) in absurd y
 
 -- ---- a line
 
@@ -65,13 +54,18 @@ acted : (P : Plan) (L : Network) (R : Reading) (out : List ℕ) (at r : ℕ) (M 
 acted P L R out at r M out' text c k m t e f =
     played P L R out at r M out' (line_of (act_read P L R).network (act_text R.kind (act_read P L R))) (is_act P L R c k) (e ∙ ap length (sym t)) m (f ∙ ap (λ x. placed out at x) (sym t))
 
-pub line_value : (P : Plan) (L : Network) (R : Reading) (out : List ℕ) (at r : ℕ) (M : Network) (out' : List ℕ) (a : Acted) → is_command R ≡ true → eqb R.kind 3 ≡ false → Acts P L (entry_of R.kind R.index R.value) a M → (eqb a.answer 0 && eqb R.kind 1) ≡ true → r ≡ length (value_text 0 a.value) → out' ≡ placed out at (value_text 0 a.value) → LinePlayed P L R out at r M out'
-line_value P L R out at r M out' a c k e t f g =
-    acted P L R out at r M out' (value_text 0 a.value) c k e.2 (rw (← e.0, t) (ap (λ n. value_text 0 n) (sym e.1))) f g
+module _ (P : Plan) (L : Network) (R : Reading) (out : List ℕ) (at r : ℕ) (M : Network) (out' : List ℕ) (c : is_command R ≡ true) (k : eqb R.kind 3 ≡ false) where
+  abbrev a : ActOn
+  a = act_read P L R
 
-pub line_answer : (P : Plan) (L : Network) (R : Reading) (out : List ℕ) (at r : ℕ) (M : Network) (out' : List ℕ) (a : Acted) → is_command R ≡ true → eqb R.kind 3 ≡ false → Acts P L (entry_of R.kind R.index R.value) a M → (eqb a.answer 0 && eqb R.kind 1) ≡ false → r ≡ length (answer_text a.answer) → out' ≡ placed out at (answer_text a.answer) → LinePlayed P L R out at r M out'
-line_answer P L R out at r M out' a c k e t f g =
-    acted P L R out at r M out' (answer_text a.answer) c k e.2 (rw (← e.0, t)) f g
+  pub line_value : (v : ℕ) → Acts P L (entry_of R.kind R.index R.value) (Ok v) M → eqb R.kind 1 ≡ true → r ≡ length (value_text 0 v) → out' ≡ placed out at (value_text 0 v) → LinePlayed P L R out at r M out'
+  line_value v e t f g = acted P L R out at r M out' (value_text 0 v) c k e.2 (rw (← e.0, t) (ap (λ n. value_text 0 n) (sym e.1))) f g
+
+  pub line_done : (v : ℕ) → Acts P L (entry_of R.kind R.index R.value) (Ok v) M → eqb R.kind 1 ≡ false → r ≡ length (answer_text 0) → out' ≡ placed out at (answer_text 0) → LinePlayed P L R out at r M out'
+  line_done v e t f g = acted P L R out at r M out' (answer_text 0) c k e.2 (rw (← e.0, t) refl) f g
+
+  pub line_answer : (x : Refusal) → Acts P L (entry_of R.kind R.index R.value) (Err x) M → r ≡ length (answer_text (number x)) → out' ≡ placed out at (answer_text (number x)) → LinePlayed P L R out at r M out'
+  line_answer x e f g = acted P L R out at r M out' (answer_text (number x)) c k e.2 (rw (← e.0, number_some x) refl) f g
 
 -- ---- a byte
 

@@ -2,7 +2,7 @@
 -- words of the network's calls.
 use Rattle.std.specs.Prelude.{◌≡◌, false, cond, ◌≢◌, List, [], ◌∷◌, ◌++◌, ℕ, ◌≤◌, ◌<◌, eqb, length, get_or, take, drop}
 use Rattle.plans.specs.declared.Plan.{Plan}
-use Rattle.spots.specs.declared.Network.{Network}
+use Rattle.lanes.specs.declared.Network.{Network}
 use Rattle.spots.specs.Rounds.{round_on, fired_on}
 use Rattle.moves.specs.Moves.{feed_answer, feed_left, drain_on, drain_left}
 use Rattle.rounds.specs.Fires.{fire_answer, fire_left}

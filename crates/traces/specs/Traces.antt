@@ -3,13 +3,13 @@ use Rattle.std.specs.Prelude.{◌≡◌, Bool, cond, ◌&&◌, List, [], ◌∷�
 use Rattle.base.specs.Lists.{patch}
 use Rattle.layout.specs.Write.{placed}
 use Rattle.plans.specs.declared.Plan.{Plan}
-use Rattle.spots.specs.declared.Network.{Network}
+use Rattle.lanes.specs.declared.Network.{Network}
 use Rattle.spots.specs.Rounds.{round_on, fired_on}
 use Rattle.orders.specs.Orders.{entry_of, ActOn, act_on}
 use Rattle.lines.specs.declared.Reading.{Reading}
 use Rattle.lines.specs.Commands.{nothing, byte_read, is_command}
 use Rattle.lines.specs.Answers.{answer_text, value_text}
-use Rattle.traces.specs.declared.Block.{Block}
+use Rattle.traces.specs.declared.Progress.{Progress}
 use Rattle.traces.specs.declared.Step.{Step}
 
 -- ---- a line
@@ -92,11 +92,11 @@ unfoldable pub block_on : Plan → ℕ → TraceOn → List ℕ → BlockOn
 block_on P room t [] = record { trace = t; read = 0 }
 block_on P room t (b ∷ bs) = cond (has_room (length t.said) room) (more 1 (block_on P room (trace_on P t b) bs)) (record { trace = t; read = 0 })
 
-abbrev pub block_given : BlockOn → Block
+abbrev pub block_given : BlockOn → Progress
 block_given B = record { read = B.read; wrote = length B.trace.said; reading = B.trace.reading }
 
-abbrev pub BlockLeft : BlockOn → List ℕ → Block → Network → List ℕ → Type 0
+abbrev pub BlockLeft : BlockOn → List ℕ → Progress → Network → List ℕ → Type 0
 BlockLeft B out r M out' = (r ≡ block_given B) × (M ≡ B.trace.network) × (out' ≡ patch out 0 B.trace.said)
 
-abbrev pub BlockPlayed : Plan → Network → Reading → List ℕ → List ℕ → Block → Network → List ℕ → Type 0
+abbrev pub BlockPlayed : Plan → Network → Reading → List ℕ → List ℕ → Progress → Network → List ℕ → Type 0
 BlockPlayed P L R input out r M out' = BlockLeft (block_on P (length out) (trace_of L R []) input) out r M out'

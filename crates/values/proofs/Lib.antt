@@ -1,4 +1,4 @@
-pub mod NoCode
+pub mod Wraps
 pub mod Bounds
 pub mod Marked
 pub mod One

@@ -2,10 +2,7 @@
 use Rattle.std.specs.Prelude.{cond, ◌&&◌, List, ℕ, ◌+◌, ◌-◌, ◌*◌, ◌/◌, ◌^◌, min, leb, length}
 use Rattle.codes.specs.declared.Record.{Record}
 use Rattle.layout.specs.Trailer.{front_bytes}
-use Rattle.net_sheet.specs.Reading.{record_at, long_enough, net_trailer_good}
-
-abbrev pub no_record : Record
-no_record = record { code = 0; width = 0; a = 0; b = 0; c = 0; k = 0 }
+use Rattle.net_sheet.specs.Reading.{record_at, no_record, long_enough, net_trailer_good}
 
 -- the record of a number, read where the sheet has its 12 bytes, else zeros
 unfoldable pub stands_at : List ℕ → ℕ → Record

@@ -15,57 +15,25 @@ pub struct Walker<'a> {
 pub fn record_of(sheet: &[u8], number: usize) -> codes::Record
     ensures { result ≡ stands_at sheet.now number }
 {
-    if number < sheet.len() / 12 {
-        let at = number * 12;
-        codes::Record {
-            code: sheet[at],
-            width: sheet[at + 1],
-            a: base::le16(sheet[at + 2], sheet[at + 3]),
-            b: base::le16(sheet[at + 4], sheet[at + 5]),
-            c: base::le16(sheet[at + 6], sheet[at + 7]),
-            k: base::le32(sheet[at + 8], sheet[at + 9], sheet[at + 10], sheet[at + 11]),
-        }
-    } else {
-        codes::Record {
-            code: 0,
-            width: 0,
-            a: 0,
-            b: 0,
-            c: 0,
-            k: 0,
-        }
-    }
+    net_sheet::record_at(sheet, number)
 }
 
 // How many records stand from a number on; none where the trailer breaks its rules.
 pub fn records_left(sheet: &[u8], number: usize) -> usize
     ensures { result ≡ left_from sheet.now number }
 {
-    if sheet.len() < 16 {
+    let Some(s) = net_sheet::net_sections(sheet) else {
         return 0;
-    }
-    let s = layout::find_sections(sheet, 0x4E);
-    if s.good & (s.middle % 2 == 0) & (s.front % 12 == 0) {
-        let records = s.front / 12;
-        if number < records {
-            records - number
-        } else {
-            0
-        }
-    } else {
-        0
-    }
+    };
+    let records = s.front / 12;
+    records.saturating_sub(number)
 }
 
 // The number after a number; the largest stays.
 pub fn number_after(number: usize) -> usize
     ensures { result ≡ after number }
 {
-    if number < usize::MAX {
-        number + 1
-    } else {
-        number
-    }
+    number.saturating_add(1)
 }
 
 // A walker at record 0.
@@ -99,12 +67,13 @@ pub fn left<'a>(w: Walker<'a>) -> usize
     records_left(w.sheet, w.number)
 }
 
-// The record that a walker stands at after so many steps from record 0, for a caller that has the sheet and no walker.
+// The record that a walker stands at after so many steps from record 0, for a caller that has the sheet and no walker. Behind the sheet's end every record is zeros,
+// so that no more steps are taken than there are records of 12 bytes.
 pub fn walked(sheet: &[u8], steps: usize) -> codes::Record
     ensures { result ≡ stands_at sheet.now steps }
 {
     let mut w = walk(sheet);
-    while w.number < steps {
+    for _ in 0..steps.min(sheet.len() / 12) {
         w = next(w);
     }
     record(w)

@@ -8,7 +8,8 @@ use std::io::Read;
 use std::rt::Files;
 use std::{fs, io};
 
-// Reads until `sheet` is full, the file ends or a read fails; how many bytes stand at the start of `sheet`.
+// Reads until `sheet` is full, the file ends or a read fails; how many bytes stand at the start of `sheet`. No `run_text::read_full`: where a read fails, what
+// was read before counts, and is printed.
 fn fill(file: &mut impl Read, sheet: &mut [u8]) -> usize
     ensures { result ≤ length sheet.new }
 {
@@ -33,34 +34,22 @@ fn read_sheet(rt: &impl Files, sheet: &mut [u8]) -> usize
     }
 }
 
-// How many records are left from a number on.
-fn put_left(rt: &impl Print, sheet: &[u8], number: usize) -> io::Result<()> {
-    let left = walker::records_left(sheet, number);
-    println!(rt; " left {left}")
-}
-
-// A record's fields, in the sheet's order.
-fn put_fields(rt: &impl Print, r: codes::Record) -> io::Result<()> {
-    print!(rt; " {} {} {} {} {} {}", r.code, r.width, r.a, r.b, r.c, r.k)
-}
-
-fn put_start(rt: &impl Print, number: usize) -> io::Result<()> {
-    print!(rt; "{number}:")
-}
-
 fn run(rt: &impl Print, sheet: &[u8]) -> io::Result<()> {
     let records = walker::records_left(sheet, 0);
     for i in 0..records {
-        put_start(rt, i)?;
-        put_fields(rt, walker::walked(sheet, i))?;
-        put_left(rt, sheet, i)?;
+        let r = walker::walked(sheet, i);
+        let left = walker::records_left(sheet, i);
+        println!(rt;
+            "{i}: {} {} {} {} {} {} left {left}",
+            r.code, r.width, r.a, r.b, r.c, r.k
+        )?;
     }
-    put_start(rt, records)?;
-    put_left(rt, sheet, records)
+    let left = walker::records_left(sheet, records);
+    println!(rt; "{records}: left {left}")
 }
 
 fn main(rt: HostRuntime) -> io::Result<()> {
     let mut sheet = [0u8; 32768];
     let n = read_sheet(&rt, &mut sheet);
-    run(&rt, &sheet[0..n])
+    run(&rt, &sheet[..n])
 }

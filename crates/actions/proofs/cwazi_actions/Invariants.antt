@@ -1,10 +1,7 @@
 -- What is done so far is what the actions so far do.
-use Rattle.std.proofs.Common.{◌-◌, length}
-use Rattle.actions.proofs.Playing.{Stands}
+use Rattle.orders.proofs.Turns.{Plays}
+use Rattle.actions.specs.Actions.{entries_of}
 use Rattle.actions.proofs.cwazi_actions.Given as goal
 
-abbrev pub invariant-loop-t : goal.invariant-loop-t
-invariant-loop-t l = Stands l.plan l.fn.network l.actions l.fn.drained l.t l.p l.network l.drained
-
-abbrev pub decreases-loop-t : goal.decreases-loop-t
-decreases-loop-t l = length l.actions - l.t
+abbrev pub invariant-loop-a : goal.invariant-loop-a
+invariant-loop-a l = Plays l.plan l.fn.network (entries_of l.actions) l.fn.drained l.a-index l.played l.network l.drained

@@ -1,47 +1,107 @@
 -- `cut::check_cut` meets its contract. The checks in their order: each return is the first that is not good.
-use mathlib.Core.Path.{sym, ◌∙◌, ap}
-use borrow.Author.Tests.{le-leb, lt-leb}
-use lib.Dec.{lit<}
-use Rattle.base.specs.Checks.{whole}
+use Rattle.std.proofs.Common.{◌≤◌, eqb, leb, length, sym, ◌∙◌, arith, leb-true}
+use Rattle.std.proofs.lemmas.Result.{err_from_is_err_and}
+use Rattle.base.proofs.Verdicts.{asked-good}
+use Rattle.base.proofs.Tests.{and_left}
 use Rattle.netlist.proofs.Numbers.{within}
-use Rattle.cut.proofs.Answers.{checked-bad, checked-good, parts_is_first, parts_is_next}
+use Rattle.cut.proofs.Answers.{cut_order, whole_passed, parts_first, depths_first, known, joined_is}
 use Rattle.cut.proofs.check_cut.Goals as goal
 
-pub returns-then-cut-gt4096 : goal.returns-then-cut-gt4096
-returns-then-cut-gt4096 c =
-    c.refused.ensures ∙ sym (checked-good 3 _ _ _ (ap whole (sym c.numbers_good.ensures ∙ c.if-numbers_good.true)) ∙ checked-bad 7 0 _ _ _ (lit< tt) (ap whole (lt-leb _ _ c.if-cut-gt4096.true)))
+pub returns-in_err-passed : goal.returns-in_err-passed
+returns-in_err-passed c =
+    let n = c.args.net.now in
+    let t = c.args.cut.now in
+    let p = err_from_is_err_and c.from_residual.result c.from_residual.ensures.1 in
+    rw (p.1, p.2, cut_order n t, ← c.numbers_good.ensures, ← c.whole.ensures, ← c.in_err-passed.ensures)
 
-pub returns-then-cut-nodes : goal.returns-then-cut-nodes
-returns-then-cut-nodes c =
-    let a = c.args in
-    c.refused-then-cut-nodes.ensures ∙ sym (checked-good 3 _ _ _ (ap whole (sym c.numbers_good.ensures ∙ c.if-numbers_good.true)) ∙ checked-good 7 _ _ _ (ap whole (le-leb _ _ c.if-cut-gt4096.false)) ∙ checked-bad 8 0 _ _ _ (lit< tt) (parts_is_first a.net a.cut c.if-cut-nodes.true))
+pub returns-in_err-passed-2 : goal.returns-in_err-passed-2
+returns-in_err-passed-2 c =
+    let n = c.args.net.now in
+    let t = c.args.cut.now in
+    let p = err_from_is_err_and c.from_residual-in_err-passed-2.result c.from_residual-in_err-passed-2.ensures.1 in
+    rw (p.1, p.2, cut_order n t, ← c.numbers_good.ensures, ← c.whole.ensures, ← c.in_ok-passed.ensures, ← c.whole-2.ensures, ← c.in_err-passed-2.ensures)
 
-pub check_parts-parts-requires : goal.check_parts-parts-requires
-check_parts-parts-requires c = (within c.args.net (sym c.numbers_good.ensures ∙ c.if-numbers_good.true)).nodes
+pub returns-in_err-passed-3 : goal.returns-in_err-passed-3
+returns-in_err-passed-3 c =
+    let n = c.args.net.now in
+    let t = c.args.cut.now in
+    let p = err_from_is_err_and c.from_residual-in_err-passed-3.result c.from_residual-in_err-passed-3.ensures.1 in
+    rw (p.1, p.2, cut_order n t, ← c.numbers_good.ensures, ← c.whole.ensures, ← c.in_ok-passed.ensures, ← c.whole-2.ensures, ← c.in_ok-passed-2.ensures, ← c.whole-3.ensures, ← c.in_err-passed-3.ensures)
 
-pub returns-in-Bad : goal.returns-in-Bad
-returns-in-Bad c =
-    let a = c.args in
-    c.refused-in-Bad.ensures
-    ∙ sym
-    (checked-good 3 _ _ _ (ap whole (sym c.numbers_good.ensures ∙ c.if-numbers_good.true))
-    ∙ checked-good 7 _ _ _ (ap whole (le-leb _ _ c.if-cut-gt4096.false))
-    ∙ checked-bad 8 _ _ _ _ (lit< tt) (parts_is_next a.net a.cut c.if-cut-nodes.false ∙ sym c.check_parts-parts.ensures ∙ c.in-Bad.is))
+pub returns-in_err-passed-4 : goal.returns-in_err-passed-4
+returns-in_err-passed-4 c =
+    let n = c.args.net.now in
+    let t = c.args.cut.now in
+    let g = sym c.numbers_good.ensures ∙ whole_passed 3 _ _ _ c.whole.ensures c.in_ok-passed.ensures in
+    let l : n.nodes ≤ length t.part = omega (arith, (within n g).nodes) in
+    let p = err_from_is_err_and c.from_residual-in_err-passed-4.result c.from_residual-in_err-passed-4.ensures.1 in
+    rw (p.1, p.2, cut_order n t, ← c.numbers_good.ensures, ← parts_first n t l, ← c.whole.ensures, ← c.in_ok-passed.ensures, ← c.whole-2.ensures, ← c.in_ok-passed-2.ensures, ← c.whole-3.ensures, ← c.in_ok-passed-3.ensures, ← c.check_parts.ensures, ← c.in_err-passed-4.ensures)
 
-pub check_queues-requires : goal.check_queues-requires
-check_queues-requires c =
-    let a = c.args in
-    ((sym c.numbers_good.ensures ∙ c.if-numbers_good.true), c.if-cut-gt4096.false, parts_is_next a.net a.cut c.if-cut-nodes.false ∙ sym c.check_parts-parts.ensures ∙ c.in_default.is)
+pub returns-in_err-passed-5 : goal.returns-in_err-passed-5
+returns-in_err-passed-5 c =
+    let n = c.args.net.now in
+    let t = c.args.cut.now in
+    let g = sym c.numbers_good.ensures ∙ whole_passed 3 _ _ _ c.whole.ensures c.in_ok-passed.ensures in
+    let l : n.nodes ≤ length t.part = omega (arith, (within n g).nodes) in
+    let q = c.find_queues-queues.result in
+    let k = known n t q g (whole_passed 8 _ _ _ c.whole-3.ensures c.in_ok-passed-3.ensures) (sym (parts_first n t l) ∙ sym c.check_parts.ensures ∙ asked-good 8 _ _ (sym c.in_ok-passed-4.ensures)) c.find_queues-queues.ensures in
+    let p = err_from_is_err_and c.from_residual-in_err-passed-5.result c.from_residual-in_err-passed-5.ensures.1 in
+    rw (p.1, p.2, cut_order n t, ← c.numbers_good.ensures, ← k.count, ← parts_first n t l, ← c.whole.ensures, ← c.in_ok-passed.ensures, ← c.whole-2.ensures, ← c.in_ok-passed-2.ensures, ← c.whole-3.ensures, ← c.in_ok-passed-3.ensures, ← c.check_parts.ensures, ← c.in_ok-passed-4.ensures, ← c.whole-4.ensures, ← c.in_err-passed-5.ensures)
 
-pub returns-in_default : goal.returns-in_default
-returns-in_default c =
-    let a = c.args in
-    c.check_queues.ensures
-    ∙ sym
-    (checked-good 3 _ _ _ (ap whole (sym c.numbers_good.ensures ∙ c.if-numbers_good.true))
-    ∙ checked-good 7 _ _ _ (ap whole (le-leb _ _ c.if-cut-gt4096.false))
-    ∙ checked-good 8 _ _ _ (parts_is_next a.net a.cut c.if-cut-nodes.false ∙ sym c.check_parts-parts.ensures ∙ c.in_default.is))
+pub returns-in_err-passed-6 : goal.returns-in_err-passed-6
+returns-in_err-passed-6 c =
+    let n = c.args.net.now in
+    let t = c.args.cut.now in
+    let g = sym c.numbers_good.ensures ∙ whole_passed 3 _ _ _ c.whole.ensures c.in_ok-passed.ensures in
+    let l : n.nodes ≤ length t.part = omega (arith, (within n g).nodes) in
+    let q = c.find_queues-queues.result in
+    let k = known n t q g (whole_passed 8 _ _ _ c.whole-3.ensures c.in_ok-passed-3.ensures) (sym (parts_first n t l) ∙ sym c.check_parts.ensures ∙ asked-good 8 _ _ (sym c.in_ok-passed-4.ensures)) c.find_queues-queues.ensures in
+    let few : q.count ≤ 512 = leb-true q.count 512 (and_left (leb q.count 512) (eqb t.queues q.count) (whole_passed 9 _ _ _ c.whole-4.ensures c.in_ok-passed-5.ensures)) in
+    let p = err_from_is_err_and c.from_residual-in_err-passed-6.result c.from_residual-in_err-passed-6.ensures.1 in
+    rw (p.1, p.2, cut_order n t, ← c.numbers_good.ensures, ← k.count, ← parts_first n t l, ← depths_first t q.count (omega arith), ← c.whole.ensures, ← c.in_ok-passed.ensures, ← c.whole-2.ensures, ← c.in_ok-passed-2.ensures, ← c.whole-3.ensures, ← c.in_ok-passed-3.ensures, ← c.check_parts.ensures, ← c.in_ok-passed-4.ensures, ← c.whole-4.ensures, ← c.in_ok-passed-5.ensures, ← c.check_depths.ensures, ← c.in_err-passed-6.ensures)
 
-pub returns-else-numbers_good : goal.returns-else-numbers_good
-returns-else-numbers_good c =
-    c.refused-else-numbers_good.ensures ∙ sym (checked-bad 3 0 _ _ _ (lit< tt) (ap whole (sym c.numbers_good.ensures ∙ c.if-numbers_good.false)))
+pub check_joined-requires : goal.check_joined-requires
+check_joined-requires c =
+    let n = c.args.net.now in
+    let t = c.args.cut.now in
+    let g = sym c.numbers_good.ensures ∙ whole_passed 3 _ _ _ c.whole.ensures c.in_ok-passed.ensures in
+    let l : n.nodes ≤ length t.part = omega (arith, (within n g).nodes) in
+    let q = c.find_queues-queues.result in
+    let k = known n t q g (whole_passed 8 _ _ _ c.whole-3.ensures c.in_ok-passed-3.ensures) (sym (parts_first n t l) ∙ sym c.check_parts.ensures ∙ asked-good 8 _ _ (sym c.in_ok-passed-4.ensures)) c.find_queues-queues.ensures in
+    let few : q.count ≤ 512 = leb-true q.count 512 (and_left (leb q.count 512) (eqb t.queues q.count) (whole_passed 9 _ _ _ c.whole-4.ensures c.in_ok-passed-5.ensures)) in
+    (few, omega (arith, k.parts))
+
+pub returns-in_err-passed-7 : goal.returns-in_err-passed-7
+returns-in_err-passed-7 c =
+    let n = c.args.net.now in
+    let t = c.args.cut.now in
+    let g = sym c.numbers_good.ensures ∙ whole_passed 3 _ _ _ c.whole.ensures c.in_ok-passed.ensures in
+    let l : n.nodes ≤ length t.part = omega (arith, (within n g).nodes) in
+    let q = c.find_queues-queues.result in
+    let k = known n t q g (whole_passed 8 _ _ _ c.whole-3.ensures c.in_ok-passed-3.ensures) (sym (parts_first n t l) ∙ sym c.check_parts.ensures ∙ asked-good 8 _ _ (sym c.in_ok-passed-4.ensures)) c.find_queues-queues.ensures in
+    let few : q.count ≤ 512 = leb-true q.count 512 (and_left (leb q.count 512) (eqb t.queues q.count) (whole_passed 9 _ _ _ c.whole-4.ensures c.in_ok-passed-5.ensures)) in
+    let p = err_from_is_err_and c.from_residual-in_err-passed-7.result c.from_residual-in_err-passed-7.ensures.1 in
+    rw (p.1, p.2, cut_order n t, ← c.numbers_good.ensures, ← joined_is n t q k.is few, ← k.count, ← parts_first n t l, ← depths_first t q.count (omega arith), ← c.whole.ensures, ← c.in_ok-passed.ensures, ← c.whole-2.ensures, ← c.in_ok-passed-2.ensures, ← c.whole-3.ensures, ← c.in_ok-passed-3.ensures, ← c.check_parts.ensures, ← c.in_ok-passed-4.ensures, ← c.whole-4.ensures, ← c.in_ok-passed-5.ensures, ← c.check_depths.ensures, ← c.in_ok-passed-6.ensures, ← c.check_joined.ensures, ← c.in_err-passed-7.ensures)
+
+pub returns-in_err-passed-8 : goal.returns-in_err-passed-8
+returns-in_err-passed-8 c =
+    let n = c.args.net.now in
+    let t = c.args.cut.now in
+    let g = sym c.numbers_good.ensures ∙ whole_passed 3 _ _ _ c.whole.ensures c.in_ok-passed.ensures in
+    let l : n.nodes ≤ length t.part = omega (arith, (within n g).nodes) in
+    let q = c.find_queues-queues.result in
+    let k = known n t q g (whole_passed 8 _ _ _ c.whole-3.ensures c.in_ok-passed-3.ensures) (sym (parts_first n t l) ∙ sym c.check_parts.ensures ∙ asked-good 8 _ _ (sym c.in_ok-passed-4.ensures)) c.find_queues-queues.ensures in
+    let few : q.count ≤ 512 = leb-true q.count 512 (and_left (leb q.count 512) (eqb t.queues q.count) (whole_passed 9 _ _ _ c.whole-4.ensures c.in_ok-passed-5.ensures)) in
+    let p = err_from_is_err_and c.from_residual-in_err-passed-8.result c.from_residual-in_err-passed-8.ensures.1 in
+    rw (p.1, p.2, cut_order n t, ← c.numbers_good.ensures, ← joined_is n t q k.is few, ← k.count, ← parts_first n t l, ← depths_first t q.count (omega arith), ← c.whole.ensures, ← c.in_ok-passed.ensures, ← c.whole-2.ensures, ← c.in_ok-passed-2.ensures, ← c.whole-3.ensures, ← c.in_ok-passed-3.ensures, ← c.check_parts.ensures, ← c.in_ok-passed-4.ensures, ← c.whole-4.ensures, ← c.in_ok-passed-5.ensures, ← c.check_depths.ensures, ← c.in_ok-passed-6.ensures, ← c.check_joined.ensures, ← c.in_ok-passed-7.ensures, ← c.check_labels.ensures, ← c.in_err-passed-8.ensures)
+
+pub returns : goal.returns
+returns c =
+    let n = c.args.net.now in
+    let t = c.args.cut.now in
+    let g = sym c.numbers_good.ensures ∙ whole_passed 3 _ _ _ c.whole.ensures c.in_ok-passed.ensures in
+    let l : n.nodes ≤ length t.part = omega (arith, (within n g).nodes) in
+    let q = c.find_queues-queues.result in
+    let k = known n t q g (whole_passed 8 _ _ _ c.whole-3.ensures c.in_ok-passed-3.ensures) (sym (parts_first n t l) ∙ sym c.check_parts.ensures ∙ asked-good 8 _ _ (sym c.in_ok-passed-4.ensures)) c.find_queues-queues.ensures in
+    let few : q.count ≤ 512 = leb-true q.count 512 (and_left (leb q.count 512) (eqb t.queues q.count) (whole_passed 9 _ _ _ c.whole-4.ensures c.in_ok-passed-5.ensures)) in
+    rw (cut_order n t, ← c.numbers_good.ensures, ← joined_is n t q k.is few, ← k.count, ← parts_first n t l, ← depths_first t q.count (omega arith), ← c.whole.ensures, ← c.in_ok-passed.ensures, ← c.whole-2.ensures, ← c.in_ok-passed-2.ensures, ← c.whole-3.ensures, ← c.in_ok-passed-3.ensures, ← c.check_parts.ensures, ← c.in_ok-passed-4.ensures, ← c.whole-4.ensures, ← c.in_ok-passed-5.ensures, ← c.check_depths.ensures, ← c.in_ok-passed-6.ensures, ← c.check_joined.ensures, ← c.in_ok-passed-7.ensures, ← c.check_labels.ensures, ← c.in_ok-passed-8.ensures, k.is)

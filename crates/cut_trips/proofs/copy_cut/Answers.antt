@@ -12,7 +12,7 @@ use Rattle.cut_trips.proofs.copy_cut.Goals as goal
 pub returns-then-got-eq0 : goal.returns-then-got-eq0
 returns-then-got-eq0 c =
     let a = c.args in
-    let n = a.net in
+    let n = a.net.now in
     let s = a.sheet.now in
     let old = a.image.now in
     let r = c.read_cut-got in
@@ -26,5 +26,5 @@ pub returns-else-got-eq0 : goal.returns-else-got-eq0
 returns-else-got-eq0 c =
     let a = c.args in
     let r = c.read_cut-got in
-    let d = copy-refused a.net a.sheet.now a.image.now (λ z. c.if-got-eq0.false (ap (λ x. x.answer) r.ensures ∙ z)) in
+    let d = copy-refused a.net.now a.sheet.now a.image.now (λ z. c.if-got-eq0.false (ap (λ x. x.answer) r.ensures ∙ z)) in
     (ap (λ x. wrote_as x.answer x.place 0) r.ensures ∙ d.0, d.1)

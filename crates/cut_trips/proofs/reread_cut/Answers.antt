@@ -1,11 +1,12 @@
 -- `cut_trips::reread_cut` meets its contract. What was read back is the cut that was written; its values are of their types because it was handed over.
 use mathlib.Core.Path.{◌≡◌, sym, ◌∙◌, ap}
-use Prim.Native.Nat.{◌-◌, ◌≤◌}
+use Prim.Native.Nat.{◌≤◌}
 use native.Mathlib.Omega.{arith}
 use borrow.Author.Rules.{rules}
 use mir.Syntax.{w8}
 use mir.Val.{Fits}
 use lib.ListN.{length, get_or, take}
+use lib.Seq.{length-take-le}
 use Rattle.queues.specs.Found.{no_queues}
 use Rattle.cut.specs.Cuts.{no_cut}
 use Rattle.cut_sheet.specs.Reading.{cut_read}
@@ -18,8 +19,8 @@ use Rattle.cut_trips.proofs.reread_cut.Goals as goal
 pub slice_bounds-read_cut-end : goal.slice_bounds-read_cut-end
 slice_bounds-read_cut-end c =
     let a = c.args in
-    let n = a.net in
-    let x = a.cut in
+    let n = a.net.now in
+    let x = a.cut.now in
     let old = a.image.now in
     let w = c.write_cut-wrote in
     let size : w.result.length ≡ (cut_wrote n x (length old)).length = ap (λ y. y.length) w.ensures.0 in
@@ -28,36 +29,48 @@ slice_bounds-read_cut-end c =
     let h : w.result.length ≤ length w.new.image = omega (arith, d.size, d.room, w.auto.image) in
     h
 
-pub returns-then-wrote-eq0 : goal.returns-then-wrote-eq0
-returns-then-wrote-eq0 c =
-    let t : Typed c.args.cut = record {
-      part = record { long = search rules; each = λ i. (let f : Fits w8 (get_or c.args.cut.part i 0) = search rules in f.fits) };
-      depth = record { long = search rules; each = λ i. (let f : Fits w8 (get_or c.args.cut.depth i 0) = search rules in f.fits) };
-      label = record { long = search rules; each = λ i. (let f : Fits w8 (get_or c.args.cut.label i 0) = search rules in f.fits) };
-    } in
+pub slice_bounds-read_cut-end-then-wrote-eq0 : goal.slice_bounds-read_cut-end-then-wrote-eq0
+slice_bounds-read_cut-end-then-wrote-eq0 c =
     let a = c.args in
-    let n = a.net in
-    let x = a.cut in
+    let n = a.net.now in
+    let x = a.cut.now in
     let old = a.image.now in
     let w = c.write_cut-wrote in
     let size : w.result.length ≡ (cut_wrote n x (length old)).length = ap (λ y. y.length) w.ensures.0 in
     let e : (cut_wrote n x (length old)).answer ≡ 0 = ap (λ y. y.answer) (sym w.ensures.0) ∙ c.if-wrote-eq0.true in
-    let whole : w.result.length - 0 ≡ (cut_wrote n x (length old)).length = omega arith in (
+    let d = wrote n x old e in
+    let h : w.result.length ≤ length w.new.image = omega (arith, d.size, d.room, w.auto.image) in
+    sym (length-take-le w.result.length w.new.image h)
+
+pub returns-then-wrote-eq0 : goal.returns-then-wrote-eq0
+returns-then-wrote-eq0 c =
+    let t : Typed c.args.cut.now = record {
+      part = record { long = search rules; each = λ i. (let f : Fits w8 (get_or c.args.cut.now.part i 0) = search rules in f.fits) };
+      depth = record { long = search rules; each = λ i. (let f : Fits w8 (get_or c.args.cut.now.depth i 0) = search rules in f.fits) };
+      label = record { long = search rules; each = λ i. (let f : Fits w8 (get_or c.args.cut.now.label i 0) = search rules in f.fits) };
+    } in
+    let a = c.args in
+    let n = a.net.now in
+    let x = a.cut.now in
+    let old = a.image.now in
+    let w = c.write_cut-wrote in
+    let size : w.result.length ≡ (cut_wrote n x (length old)).length = ap (λ y. y.length) w.ensures.0 in
+    let e : (cut_wrote n x (length old)).answer ≡ 0 = ap (λ y. y.answer) (sym w.ensures.0) ∙ c.if-wrote-eq0.true in (
       c.read_cut.ensures
-          ∙ ap (λ k. cut_read n (take k w.new.image)) whole
+          ∙ ap (λ k. cut_read n (take k w.new.image)) size
           ∙ ap (λ l. cut_read n (take (cut_wrote n x (length old)).length l)) w.ensures.1
-          ∙ reread-done n x old (t) e,
+          ∙ reread-done n x old t e,
       w.ensures.1,
     )
 
 pub returns-else-wrote-eq0 : goal.returns-else-wrote-eq0
 returns-else-wrote-eq0 c =
     let a = c.args in
-    let n = a.net in
-    let x = a.cut in
+    let n = a.net.now in
+    let x = a.cut.now in
     let old = a.image.now in
     let w = c.write_cut-wrote in (
-      rw (c.no_cut-none.ensures, c.no_queues-queues.ensures)
+      rw (c.no_cut.ensures, c.no_queues.ensures)
           (ap (λ y. record { answer = y.answer; place = y.place; cut = no_cut; queues = no_queues }) w.ensures.0 ∙ reread-refused n x old (λ z. c.if-wrote-eq0.false (ap (λ y. y.answer) w.ensures.0 ∙ z))),
       w.ensures.1,
     )

@@ -1,11 +1,8 @@
 -- `finishes::count_cycles` meets its contract. A turn counts for one part.
-use Rattle.std.proofs.Common.{◌≡◌, ◌-◌, ◌≤◌}
+use Rattle.std.proofs.Common.{◌≡◌}
 use Rattle.base.specs.Lists.{fill}
-use Rattle.finishes.specs.Finishes.{next_count, finished}
+use Rattle.finishes.specs.Finishes.{next_count}
 use Rattle.finishes.proofs.count_cycles.Given as goal
 
 abbrev pub invariant-loop-p : goal.invariant-loop-p
-invariant-loop-p l = (l.p ≤ l.end) × (l.end ≤ 32) × (l.fired ≡ finished l.fin l.p) × (l.count ≡ fill (next_count l.fin l.initial.count) l.p l.initial.count) × (l.fired ≤ l.p)
-
-abbrev pub decreases-loop-p : goal.decreases-loop-p
-decreases-loop-p l = l.end - l.p
+invariant-loop-p l = l.count ≡ fill (next_count l.fin l.initial.count) l.p l.initial.count

@@ -1,26 +1,35 @@
 -- `finishes::take_all` meets its contract. A turn takes from one queue and puts one flag off.
-use Rattle.std.proofs.Common.{◌≡◌, min, false, get_or, refl, ap, arith, rules}
-use Rattle.finishes.specs.Finishes.{cells_after, used_after, flags_after}
+use Rattle.std.proofs.Common.{◌≡◌, ◌<◌, cond, false, get_or, ltb, ◌&&◌, refl, ◌∙◌, lt-ltb, arith}
+use Rattle.lanes.specs.Lanes.{take_used}
+use Rattle.finishes.specs.Finishes.{part_in, take_if, cells_after, used_after, flags_after}
 use Rattle.finishes.proofs.Turns.{used_turn, cells-turn, flags-turn}
 use Rattle.finishes.proofs.take_all.Goals as goal
+use Rattle.finishes.proofs.take_all.Goals.{then-fin-takes, else-fin-takes}
 
 pub loop-q-init : goal.loop-q-init
 unfolding cells_after used_after flags_after
-loop-q-init c = (search rules, omega (arith, c.least-end.ensures), refl, refl, refl)
+loop-q-init c = (refl, refl, refl, refl, refl)
 
 pub loop-q-preserved : goal.loop-q-preserved
 loop-q-preserved c =
     let l = c.loop-q in
     let v = l.invariant in
-    let a = c.args in
-    let t = c.take_if.ensures in
-    let m = ap (λ k. get_or a.fin.now k false) c.part_of-takes.ensures.0 in
-    (search rules, v.1, cells-turn _ _ l.q _ _ _ _ _ _ v.3 v.2 m t.0, used_turn _ _ l.q _ _ _ _ v.3 m t.1, flags-turn _ _ l.q _ _ _ v.4 (ap (λ k. get_or a.fin.now k false) c.part_of-puts.ensures.0))
-
-pub returns : goal.returns
-returns c =
-    let l = c.loop-q in
-    let v = l.invariant in
-    let s = c.args in
-    let e : l.q ≡ min s.n 512 = omega (arith, v.0, c.least-end.ensures, c.loop-q-test.false) in
-    rw (← e) (v.2, v.3, v.4)
+    let into = c.args.plan.now.into in
+    let fin = c.args.fin.now in
+    let N = l.network in
+    let k = c.if-fin-takes.network in
+    let h : l.q < 512 = omega (arith, c.loop-q-test.true, c.min-q-end.ensures) in
+    let t : (k.cells ≡ take_if (get_or fin (part_in into l.q) false) N.used N.cells l.q) × (k.used ≡ cond (get_or fin (part_in into l.q) false && ltb 0 (get_or N.used l.q 0)) (take_used N.used l.q) N.used) × (k.flag ≡ N.flag) × (k.held ≡ N.held) × (k.count ≡ N.count) =
+    elim c.if-fin-takes.branch [
+      | then-fin-takes w ↦
+          let b = lt-ltb l.q 512 h in
+          let e = w.take.ensures in
+          rw (w.network-is, w.if-fin-takes.true) (rw b at e.0, rw b at e.1, e.2, e.3, e.4)
+      | else-fin-takes w ↦ rw (w.network-is, w.if-fin-takes.false) (refl, refl, refl, refl, refl)
+    ] in (
+      cells-turn _ _ l.q _ _ _ _ _ v.1 v.0 t.0,
+      used_turn _ _ l.q _ _ _ v.1 t.1,
+      rw t.2 (flags-turn _ _ l.q _ _ v.2),
+      t.3 ∙ v.3,
+      t.4 ∙ v.4,
+    )

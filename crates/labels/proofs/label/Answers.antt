@@ -1,44 +1,34 @@
 -- `labels::label` meets its contract. The spot lies within its sheet, and the part that is handed back is there.
 use mathlib.Core.Path.{◌≡◌, refl}
-use Prim.Native.Nat.{◌+◌, ◌-◌, ◌≤◌}
+use Prim.Native.Nat.{◌+◌, ◌-◌}
 use native.Mathlib.Omega.{arith}
-use lib.ListN.{length}
-use Rattle.labels.proofs.Spots.{within_cut, within-net}
+use Rattle.labels.specs.Spots.{of_sheet}
+use Rattle.labels.proofs.Spots.{within_sheet}
 use Rattle.labels.proofs.label.Goals as goal
-
--- the spot lies within its sheet
-ends-cut : (x : goal.Then-spot) → x.label_spot-spot.result.from + x.label_spot-spot.result.length ≤ length x.args.cut.now
-ends-cut x =
-    let a = x.args in
-    let p = x.label_spot-spot in
-    within_cut a.net.now a.cut.now a.node p.result p.ensures x.if-spot.true
-
-ends-net : (x : goal.Else-spot) → x.label_spot-spot.result.from + x.label_spot-spot.result.length ≤ length x.args.net.now
-ends-net x =
-    let a = x.args in
-    let p = x.label_spot-spot in
-    within-net a.net.now a.cut.now a.node p.result p.ensures x.if-spot.false
+use Rattle.labels.proofs.label.Goals.{then-spot, else-spot}
 
 pub overflow_add-result : goal.overflow_add-result
-overflow_add-result c = omega (arith, ends-cut c)
+overflow_add-result c =
+    let p = c.label_spot-spot in
+    elim c.if-spot.branch [
+      | then-spot w ↦
+          let h = within_sheet c.args.net c.args.cut c.args.cut c.args.node p.result p.ensures (rw w.if-spot.true) in
+          omega (arith, h)
+      | else-spot w ↦
+          let h = within_sheet c.args.net c.args.cut c.args.net c.args.node p.result p.ensures (rw w.if-spot.false) in
+          omega (arith, h)
+    ]
 
 pub slice_bounds-result-end : goal.slice_bounds-result-end
-slice_bounds-result-end c = omega (arith, ends-cut c)
-
-pub overflow_add-result-else-spot : goal.overflow_add-result-else-spot
-overflow_add-result-else-spot c = omega (arith, ends-net c)
-
-pub slice_bounds-result-end-else-spot : goal.slice_bounds-result-end-else-spot
-slice_bounds-result-end-else-spot c = omega (arith, ends-net c)
-
-pub returns-then-spot : goal.returns-then-spot
-returns-then-spot c =
+slice_bounds-result-end c =
     let p = c.label_spot-spot in
-    let n : p.result.from + p.result.length - p.result.from ≡ p.result.length = omega arith in
-    rw (← p.ensures, c.if-spot.true, n) (refl, refl, refl)
+    let e : c.if-spot.sheet ≡ of_sheet p.result c.args.net c.args.cut = elim c.if-spot.branch [ then-spot w ↦ rw w.if-spot.true w.sheet-is | else-spot w ↦ rw w.if-spot.false w.sheet-is ] in
+    let h = within_sheet c.args.net c.args.cut c.if-spot.sheet c.args.node p.result p.ensures e in
+    omega (arith, h)
 
-pub returns-else-spot : goal.returns-else-spot
-returns-else-spot c =
+pub returns : goal.returns
+returns c =
     let p = c.label_spot-spot in
+    let e : c.if-spot.sheet ≡ of_sheet p.result c.args.net c.args.cut = elim c.if-spot.branch [ then-spot w ↦ rw w.if-spot.true w.sheet-is | else-spot w ↦ rw w.if-spot.false w.sheet-is ] in
     let n : p.result.from + p.result.length - p.result.from ≡ p.result.length = omega arith in
-    rw (← p.ensures, c.if-spot.false, n) (refl, refl, refl)
+    rw (← p.ensures, ← e, n) (refl, refl, refl)

@@ -1,6 +1,5 @@
 -- `net_trips::copy_net` meets its contract. The image of what was read is the sheet.
 use mathlib.Core.Path.{◌≡◌, sym, ◌∙◌, ap}
-use native.Mathlib.Omega.{arith}
 use lib.ListN.{length}
 use Rattle.base.specs.Arrays.{Bytes}
 use Rattle.layout.specs.Write.{wrote_as}
@@ -14,7 +13,7 @@ returns-then-got-eq0 c =
     let s = c.args.sheet.now in
     let old = c.args.image.now in
     let r = c.read_net-got in
-    let bytes : Bytes s = λ i. omega (arith, c.shared_slice_known-1.given i) in
+    let bytes : Bytes s = λ i. (c.type_inv.sheet i).fits in
     let e : (net_read s).answer ≡ 0 = ap (λ x. x.answer) (sym r.ensures) ∙ c.if-got-eq0.true in
     let d = copy_done s old bytes e in
     let w = c.write_net.ensures in

@@ -1,6 +1,7 @@
--- `network::cwazi_drain` meets its contract. The fields that are not lent stay.
+-- `network::cwazi_drain` meets its contract: what it says by the definitions, it says in the outline's words.
+use mathlib.Core.Path.{◌∙◌}
 use Rattle.network.proofs.Whole.{drain-whole}
 use Rattle.network.proofs.cwazi_drain.Goals as goal
 
 pub returns : goal.returns
-returns c = drain-whole c.args.plan.now c.args.network.now c.args.output c.drain_by.result _ _ c.drain_by.ensures
+returns c = drain-whole c.args.plan.now c.args.network.now c.args.output c.drained_for_c.result c.drain.new.network (c.drained_for_c.ensures ∙ c.drain.ensures.0, c.drain.ensures.1)

@@ -1,17 +1,13 @@
--- `puts::put_rules` meets its contract. The arrays and the two counters are the pass so far.
-use mathlib.Core.Path.{◌≡◌}
-use Prim.Native.Nat.{◌-◌, ◌≤◌}
-use Rattle.evals.specs.Passes.{mk}
-use Rattle.puts.specs.Puts.{mk_plan, mk_pass, puts_after}
+-- `puts::put_rules` meets its contract. The network, what is found and the two counters are the pass so far.
+use Rattle.std.proofs.Common.{◌≡◌, ◌-◌, ◌≤◌}
+use Rattle.puts.specs.Puts.{mk_pass, rules_of, pass_of, puts_after}
 use Rattle.puts.proofs.put_rules.Given as goal
 
 abbrev pub invariant-loop-q : goal.invariant-loop-q
 invariant-loop-q l =
-    (l.lo ≤ l.q)
-    × (l.q - l.lo ≤ l.end - l.lo)
-    × (l.end ≤ 512)
+    (l.q - l.lo ≤ l.q-end - l.lo)
+    × (l.q-end ≤ 512)
     × (l.fired ≤ l.q - l.lo)
-    × (mk_pass l.seen l.fired l.cells l.used l.flag l.vals l.mets ≡ puts_after (mk_plan (mk l.code l.width l.join l.k l.ra l.rb l.rc) l.held l.node l.from l.depth l.count l.limit l.channels l.nodes) l.lo (l.q - l.lo) (mk_pass 0 0 l.initial.cells l.initial.used l.initial.flag l.initial.vals l.initial.mets))
-
-abbrev pub decreases-loop-q : goal.decreases-loop-q
-decreases-loop-q l = l.end - l.q
+    × (l.network.held ≡ l.initial.network.held)
+    × (l.network.count ≡ l.initial.network.count)
+    × (mk_pass l.seen l.fired l.network.cells l.network.used l.network.flag l.found.vals l.found.mets ≡ puts_after (rules_of l.plan l.initial.network) l.lo (l.q - l.lo) (pass_of l.initial.network l.initial.found))

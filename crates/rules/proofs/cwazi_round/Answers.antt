@@ -1,6 +1,6 @@
--- `rules::cwazi_round` meets its contract. The plan and the network are their fields.
+-- `rules::cwazi_round` meets its contract: what it says by the definitions, it says in the outline's words.
 use Rattle.rules.proofs.Whole.{round_whole}
 use Rattle.rules.proofs.cwazi_round.Goals as goal
 
 pub returns : goal.returns
-returns c = round_whole c.args.plan.now c.args.network.now c.round_by.result _ (c.round_by.ensures c.args.plan.now.outputs c.args.plan.now.rules)
+returns c = round_whole c.args.plan.now c.args.network.now c.round.result c.round.new.network c.round.ensures

@@ -1,21 +1,10 @@
--- `run_text::untouched` meets its contract. The loop keeps: the bytes passed so far are the filler.
-use Rattle.std.proofs.Common.{◌≡◌, length, sym, refl, arith, rules, eq-eqb, ne_eqb}
-use Rattle.base.proofs.Tests.{every-false, every-step}
-use Rattle.run_text.specs.Texts.{all_are}
+-- `run_text::untouched` meets its contract: `all` finds a byte that is not the filler, or none.
+use Rattle.std.proofs.Common.{◌≡◌, rules}
+use borrow.Author.Tests.{tests}
+use Rattle.std.proofs.lemmas.Iterator.{YieldsList-from_slice, cases_from_all}
+use Rattle.run_text.proofs.Laws as laws
 use Rattle.run_text.proofs.untouched.Goals as goal
 
-pub loop-i-init : goal.loop-i-init
-loop-i-init c = (search rules, refl)
-
-pub returns-then-a-i : goal.returns-then-a-i
-unfolding all_are
-returns-then-a-i c = sym (every-false _ _ c.loop-i.i c.loop-i-test.true (ne_eqb _ _ c.if-a-i.true))
-
-pub loop-i-preserved : goal.loop-i-preserved
-loop-i-preserved c = (search rules, every-step _ c.loop-i.i c.loop-i.invariant.1 (eq-eqb _ _ c.if-a-i.false))
-
 pub returns : goal.returns
-unfolding all_are
 returns c =
-    let e : c.loop-i.i ≡ length c.args.a.now = omega arith in
-    rw (← e) (sym c.loop-i.invariant.1)
+    laws.are-all c.args.filler c.args.a.now c.all.result (cases_from_all _ _ c.all.result (λ x. x ≡ c.args.filler) (λ x. ¬ (x ≡ c.args.filler)) c.all.ensures.ran (YieldsList-from_slice c.args.a.now cc) (λ x q k. search (rules, tests)) (λ x q k. search (rules, tests)))

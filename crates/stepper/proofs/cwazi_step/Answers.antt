@@ -1,6 +1,8 @@
--- `stepper::cwazi_step` meets its contract. A netlist is its fields.
+-- `stepper::cwazi_step` meets its contract: what is promised of the netlist without its labels holds of the netlist.
 use Rattle.stepper.proofs.Whole.{steps_whole}
 use Rattle.stepper.proofs.cwazi_step.Goals as goal
 
 pub returns : goal.returns
-returns c = steps_whole c.args.net.now c.args.regs.now 1 c.args.ins.now c.args.outs.now c.step_by.result c.step_by.new.regs c.step_by.new.outs c.step_by.ensures
+returns c =
+    let a = c.args in
+    rw c.answer.ensures (steps_whole a.net.now a.regs.now 1 a.ins.now a.outs.now _ _ _ c.step.ensures)

@@ -1,9 +1,6 @@
--- The walker stays on the sheet, at no more steps than asked.
-use Rattle.std.proofs.Common.{◌≡◌, ◌-◌, ◌≤◌}
+-- The walker stays on the sheet, and its number is that of the steps taken.
+use Rattle.std.proofs.Common.{◌≡◌}
 use Rattle.walker.proofs.walked.Given as goal
 
-abbrev pub invariant-loop-w : goal.invariant-loop-w
-invariant-loop-w l = (l.w.sheet.now ≡ l.sheet) × (l.w.number ≤ l.steps)
-
-abbrev pub decreases-loop-w : goal.decreases-loop-w
-decreases-loop-w l = l.steps - l.w.number
+abbrev pub invariant-loop : goal.invariant-loop
+invariant-loop l = (l.w.sheet.now ≡ l.sheet) × (l.w.number ≡ l.counter)

@@ -1,11 +1,7 @@
--- `cycle_run::lists::numbers` is safe and ends. The loop keeps: `i` is at most the text's length, and `n` at most the list's. Assumes nothing.
-use mathlib.Core.Path.{◌≡◌}
-use Prim.Native.Nat.{◌≤◌, ◌-◌}
+-- `cycle_run::lists::numbers` is safe: the list has as much room as there was, and no more is put.
+use Prim.Native.Nat.{◌≤◌}
 use lib.ListN.{length}
 use Rattle.cycle_run.proofs.lists.numbers.Given as goal
 
-abbrev pub invariant-loop-i : goal.invariant-loop-i
-invariant-loop-i l = (l.i ≤ length l.text) × (l.n ≤ length l.initial.list) × (length l.list ≡ length l.initial.list)
-
-abbrev pub decreases-loop-i : goal.decreases-loop-i
-decreases-loop-i l = length l.text - l.i
+abbrev pub invariant-loop-word : goal.invariant-loop-word
+invariant-loop-word l = l.n ≤ length l.list

@@ -1,21 +1,10 @@
 -- `cycles::cycle::change_registers` meets its contract. The registers are changed so far at the list's nodes, all from the cycle's values.
-use mathlib.Core.Path.{◌∙◌, ap}
-use native.Mathlib.Omega.{arith}
-use lib.ListN.{get_or}
-use Rattle.cycles.specs.Pass.{inside}
-use Rattle.cycles.proofs.Listed.{puts_none, puts-step, puts-end}
-use borrow.Author.Rules.{rules}
+use Rattle.std.proofs.Common.{refl}
+use Rattle.cycles.proofs.Listed.{puts_none, puts-step}
 use Rattle.cycles.proofs.cycle.change_registers.Goals as goal
 
-pub loop-j-init : goal.loop-j-init
-loop-j-init c = (search rules, puts_none _ _ _)
+pub loop-x-init : goal.loop-x-init
+loop-x-init c = puts_none _ _ _
 
-pub loop-j-preserved : goal.loop-j-preserved
-loop-j-preserved c =
-    let a = c.args in (
-      search rules,
-      puts-step _ _ _ _ _ _ _ c.loop-j.invariant.1 c.inside_of-i.ensures.0 (ap (λ p. get_or a.vals.now p 0) c.inside_of-p.ensures.0 ∙ ap (λ p. get_or a.vals.now (inside (get_or a.a.now p 0)) 0) c.inside_of-i.ensures.0),
-    )
-
-pub returns : goal.returns
-returns c = puts-end _ _ _ _ _ _ c.loop-j.invariant.1 (omega arith)
+pub loop-x-preserved : goal.loop-x-preserved
+loop-x-preserved c = puts-step _ _ _ _ _ _ _ c.loop-x.invariant refl refl

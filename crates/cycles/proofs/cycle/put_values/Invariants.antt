@@ -1,12 +1,8 @@
 -- `cycles::cycle::put_values` meets its contract. The list is filled so far, from its place on.
 use mathlib.Core.Path.{◌≡◌}
-use Prim.Native.Nat.{◌-◌, ◌≤◌}
 use lib.ListN.{get_or}
 use Rattle.cycles.specs.Pass.{inside, fill_from}
 use Rattle.cycles.proofs.cycle.put_values.Given as goal
 
 abbrev pub invariant-loop-j : goal.invariant-loop-j
-invariant-loop-j l = (l.j ≤ l.n) × (l.outs ≡ fill_from l.at (λ m. get_or l.vals (inside (get_or l.output m 0)) 0) l.j l.initial.outs)
-
-abbrev pub decreases-loop-j : goal.decreases-loop-j
-decreases-loop-j l = l.n - l.j
+invariant-loop-j l = (l.outs ≡ fill_from l.at (λ m. get_or l.vals (inside (get_or l.net.output m 0)) 0) l.j l.initial.outs)

@@ -1,15 +1,15 @@
--- `net_sheet::load::load_labels` meets its contract. The list is filled so far from the sheet.
-use mathlib.Core.Path.{refl}
+-- `net_sheet::load::load_labels` meets its contract. A stretch copied to the list's front is what the list is filled with.
+use mathlib.Core.Path.{◌≡◌, ◌∙◌, ap}
 use native.Mathlib.Omega.{arith}
 use borrow.Author.Rules.{rules}
-use Rattle.base.proofs.Fill.{fill_none, fill_step, fill_end}
+use lib.ListN.{length, take, drop}
+use borrow.Rule.Slice.PartMut.{put_mid}
+use Rattle.base.proofs.Windows.{window-copied}
 use Rattle.net_sheet.proofs.load.load_labels.Goals as goal
 
-pub loop-j-init : goal.loop-j-init
-loop-j-init c = (search rules, fill_none _ _)
-
-pub loop-j-preserved : goal.loop-j-preserved
-loop-j-preserved c = (search rules, fill_step _ _ _ _ _ c.loop-j.invariant.1 refl)
-
 pub returns : goal.returns
-returns c = fill_end _ _ _ _ _ c.loop-j.invariant.1 (omega arith)
+returns c =
+    let a = c.args in
+    let long : length a.label.now ≡ 4096 = search rules in
+    let e : c.copy_from_slice.new.self ≡ take a.n (drop a.from a.sheet.now) = search rules in
+    ap (λ l. put_mid 0 a.n a.label.now l) e ∙ window-copied a.sheet.now a.label.now a.from a.n c.requires.1 (omega arith)

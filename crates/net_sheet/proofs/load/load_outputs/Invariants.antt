@@ -1,12 +1,9 @@
 -- `net_sheet::load::load_outputs` meets its contract. The list is filled so far from the sheet.
 use mathlib.Core.Path.{◌≡◌}
-use Prim.Native.Nat.{◌+◌, ◌*◌, ◌-◌, ◌≤◌}
+use Prim.Native.Nat.{◌+◌, ◌*◌}
 use Rattle.base.specs.Lists.{fill}
 use Rattle.base.specs.Bytes.{two_at}
 use Rattle.net_sheet.proofs.load.load_outputs.Given as goal
 
 abbrev pub invariant-loop-j : goal.invariant-loop-j
-invariant-loop-j l = (l.j ≤ l.n) × (l.output ≡ fill (λ m. two_at l.sheet (l.from + m * 2)) l.j l.initial.output)
-
-abbrev pub decreases-loop-j : goal.decreases-loop-j
-decreases-loop-j l = l.n - l.j
+invariant-loop-j l = l.output ≡ fill (λ m. two_at l.sheet (l.from + m * 2)) l.j l.initial.output

@@ -1,4 +1,4 @@
--- `network_run::play::commands` is safe and ends.
+-- `network_run::play::commands` ends: the next command starts past the one before.
 use Rattle.std.proofs.Common.{◌-◌, ◌≤◌, length}
 use Rattle.network_run.proofs.play.commands.Given as goal
 

@@ -1,41 +1,51 @@
 -- `queues::channels::find_channels` meets its contract. A turn finds the channels of one node, right behind those before.
-use Rattle.std.proofs.Common.{◌≡◌, ℕ, List, sym, refl, add-zero, arith, rules}
+use Rattle.std.proofs.Common.{◌≡◌, ◌+◌, length, ap, ◌∙◌, arith, rules}
 use Rattle.base.proofs.Fill.{fill_none, fill_step}
-use Rattle.queues.specs.Lists.{listed, laid}
-use Rattle.queues.specs.Queues.{Queue}
-use Rattle.queues.specs.Pass.{channels_by}
-use Rattle.queues.proofs.Listed.{stretch-count, stretch-turn}
-use Rattle.queues.proofs.Crossings.{below_32}
+use Rattle.queues.specs.Queues.{channels_of, channels_to, parts_of}
+use Rattle.queues.specs.Pass.{put_all}
+use Rattle.queues.proofs.Crossings.{below_32, by_is, told_is}
+use Rattle.queues.proofs.Puts.{put_start, put_turn}
+use Rattle.queues.proofs.Whole.{all-parts, few, channels-few}
 use Rattle.queues.proofs.channels.find_channels.Goals as goal
 
 pub loop-i-init : goal.loop-i-init
-unfolding listed laid
-loop-i-init c = (search rules, sym (add-zero _), refl, refl, refl, fill_none _ _, c.requires.3, search rules)
+loop-i-init c = (c.mark_uses.ensures, fill_none _ _, put_start (λ j. channels_of c.args.net.now c.args.part.now j (parts_of c.args.net.now c.args.part.now)) _)
 
-pub number_node-next-requires : goal.number_node-next-requires
-number_node-next-requires c =
+pub overflow_cast-channels : goal.overflow_cast-channels
+overflow_cast-channels c =
     let l = c.loop-i in
-    (search rules, below_32 c.args.part.now c.args.n c.requires.2 l.i (search rules), search rules, l.invariant.6)
+    let k = channels-few c.args.net.now c.args.part.now c.requires.0 l.i in
+    let e = ap (λ s. s.count) l.invariant.2 in
+    omega (arith, k, e, c.requires.1, c.requires.0.nodes)
+
+pub number_node-requires : goal.number_node-requires
+number_node-requires c =
+    let l = c.loop-i in
+    let k = channels-few c.args.net.now c.args.part.now c.requires.0 l.i in
+    let e = ap (λ s. s.count) l.invariant.2 in
+    (omega (arith, c.requires.0.nodes), below_32 c.args.net.now c.args.part.now c.requires.0 l.i (search rules), omega (arith, k, e, c.requires.1, c.requires.0.nodes))
 
 pub loop-i-preserved : goal.loop-i-preserved
 loop-i-preserved c =
     let l = c.loop-i in
+    let n = c.args.net.now in
+    let part = c.args.part.now in
     let v = l.invariant in
-    let e = c.number_node-next.ensures in
-    let g : ℕ → List Queue = λ j. channels_by c.args.part.now c.args.marks.now j 32 in
-    let k = stretch-count g l.i in (
-      search rules,
-      omega (arith, v.1, k, e.0),
-      stretch-turn g (λ q. q.node) c.args.q l.i l.next _ _ _ v.2 v.1 e.2,
-      stretch-turn g (λ q. q.from) c.args.q l.i l.next _ _ _ v.3 v.1 e.3,
-      stretch-turn g (λ q. q.into) c.args.q l.i l.next _ _ _ v.4 v.1 e.4,
-      fill_step _ l.i _ _ _ v.5 v.1,
-      e.5,
-      search rules,
+    let m = few n part c.requires.0 in
+    let k = by_is n part c.requires.0 l.channels.marks v.0 l.i 32 (search rules) (omega arith) ∙ all-parts n part l.i m in
+    let e = ap (λ s. s.count) v.2 in (
+      v.0,
+      fill_step _ l.i _ _ _ v.1 (e ∙ ap (λ x. x + length (channels_to n part l.i)) c.requires.1),
+      put_turn (λ j. channels_of n part j (parts_of n part)) l.i _ l.queues _ v.2 (c.number_node.ensures ∙ ap (λ qs. put_all qs l.queues) k),
     )
 
 pub returns : goal.returns
 returns c =
-    let e : c.loop-i.i ≡ c.args.n = omega arith in
-    let v = c.loop-i.invariant in
-    rw (← e) (v.1, search rules, v.2, v.3, v.4, v.5, v.6)
+    let l = c.loop-i in
+    let n = c.args.net.now in
+    let part = c.args.part.now in
+    let v = l.invariant in
+    let e : l.i ≡ n.nodes = omega arith in
+    let k = channels-few n part c.requires.0 l.i in
+    let z = ap (λ s. s.count) v.2 in
+    (rw e at v.2, omega (arith, k, z, c.requires.1, c.requires.0.nodes), record { told = told_is n part c.requires.0 l.channels.marks v.0; first = rw e at v.1 })

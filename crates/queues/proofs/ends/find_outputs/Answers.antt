@@ -1,37 +1,30 @@
 -- `queues::ends::find_outputs` meets its contract. A turn finds one queue.
-use Rattle.std.proofs.Common.{◌≡◌, ℕ, ◌+◌, true, get_or, sym, refl, ap, arith, rules}
-use Rattle.queues.specs.Lists.{listed, laid}
+use Rattle.std.proofs.Common.{◌≡◌, ℕ, List, refl, get_or, take, ◌∷◌, [], ap, ap₂, ◌∙◌, le_refl, arith}
+use Rattle.std.specs.Option.{unwrap_or}
+use Rattle.std.proofs.lemmas.List.{length-take}
+use Rattle.std.proofs.lemmas.List.{get_or-take}
+use Rattle.netlist.specs.Netlists.{output_of}
 use Rattle.queues.specs.Queues.{Queue, output_at}
-use Rattle.queues.proofs.Listed.{store-turn, ones-all}
+use Rattle.queues.specs.Pass.{put}
+use Rattle.queues.proofs.Listed.{ones-all}
+use Rattle.queues.proofs.Puts.{put_start, put_next}
 use Rattle.queues.proofs.ends.find_outputs.Goals as goal
 
-pub loop-j-init : goal.loop-j-init
-unfolding listed laid
-loop-j-init c = (search rules, refl, refl, refl, c.requires.3)
+pub loop-x-init : goal.loop-x-init
+loop-x-init c = put_start (λ m. output_at c.args.part.now (output_of c.args.net.now m) ∷ []) _
 
-pub part_at-p-requires : goal.part_at-p-requires
-part_at-p-requires c = c.requires.2
+pub put-requires : goal.put-requires
+put-requires c =
+    let l = c.loop-x in
+    let b = ones-all (λ m. output_at c.args.part.now (output_of c.args.net.now m)) l.x-index in
+    let e = ap (λ s. s.count) l.invariant in
+    omega (arith, b, e)
 
-pub put_queue-requires : goal.put_queue-requires
-put_queue-requires c = c.loop-j.invariant.4
-
-pub loop-j-preserved : goal.loop-j-preserved
-loop-j-preserved c =
-    let l = c.loop-j in
-    let v = l.invariant in
-    let e = c.put_queue.ensures in
-    let h = c.part_at-p.ensures in
-    let x : ℕ → Queue = λ m. output_at c.args.part.now (get_or c.args.output.now m 0) in
-    let k = ap (λ z. c.args.q + z) (sym (ones-all x l.j)) in (
-      search rules,
-      store-turn (λ m. true) x (λ q. q.node) c.args.q l.j (c.args.q + l.j) _ _ _ _ v.1 k refl e.2,
-      store-turn (λ m. true) x (λ q. q.from) c.args.q l.j (c.args.q + l.j) _ _ _ _ v.2 k h e.3,
-      store-turn (λ m. true) x (λ q. q.into) c.args.q l.j (c.args.q + l.j) _ _ _ _ v.3 k refl e.4,
-      e.5,
-    )
-
-pub returns : goal.returns
-returns c =
-    let e : c.loop-j.j ≡ c.args.n = omega arith in
-    let v = c.loop-j.invariant in
-    rw (← e) (v.1, v.2, v.3)
+pub loop-x-preserved : goal.loop-x-preserved
+loop-x-preserved c =
+    let l = c.loop-x in
+    let part = c.args.part.now in
+    let g : ℕ → List Queue = λ m. output_at part (output_of c.args.net.now m) ∷ [] in
+    let e : get_or (take c.args.net.now.outputs c.args.net.now.output) l.x-index 0 ≡ output_of c.args.net.now l.x-index = get_or-take c.args.net.now.outputs c.args.net.now.output l.x-index 0 (omega (arith, length-take c.args.net.now.outputs c.args.net.now.output)) in
+    let p = c.unwrap_or-from.ensures ∙ ap (λ o. unwrap_or o 0) c.copied.ensures ∙ c.get.ensures.lookup.4 (le_refl _) 0 ∙ ap (λ x. get_or part x 0) e in
+    put_next g (output_at part (output_of c.args.net.now l.x-index)) l.x-index _ l.queues _ l.invariant refl (c.put.ensures ∙ ap₂ (λ x y. put x y 32 l.queues) e p)

@@ -1,9 +1,0 @@
--- `net_run::digest::with_labels` is safe and ends. Assumes nothing.
-use Prim.Native.Nat.{◌-◌}
-use Rattle.net_run.proofs.digest.with_labels.Given as goal
-
-abbrev pub invariant-loop-j : goal.invariant-loop-j
-invariant-loop-j l = Unit {0}
-
-abbrev pub decreases-loop-j : goal.decreases-loop-j
-decreases-loop-j l = 4096 - l.j
