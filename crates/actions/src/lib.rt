@@ -45,6 +45,7 @@ pub extern "C" fn cwazi_actions(
         played.answer = Refusal::NoRoom.number();
         return played;
     }
+    // The loop of `orders` goes over three lists: one loop for both would take an iterator of entries, and be longer.
     for a in actions {
         played.play(plan, network, a.kind, a.index, a.value, drained);
     }

@@ -8,6 +8,7 @@ use borrow.Author.Tests.{leb-true, leb-false}
 use lib.Dec.{leb}
 use lib.ListN.{length, get_or, take, replicate, length-replicate}
 use lib.Seq.{ext_get_or}
+use Rattle.std.specs.Array.{AllOfLen}
 use Rattle.base.specs.Lists.{fill}
 use Rattle.base.specs.Arrays.{Array, cleared, ZerosFrom}
 use Rattle.base.proofs.Fill.{fill_at, fill-past, fill-length, fill-same}
@@ -17,6 +18,10 @@ pub zeros_at : (m i : ℕ) → ◌≡◌ {A = ℕ} (get_or (replicate m 0) i 0) 
 zeros_at zero i = refl
 zeros_at (suc m) zero = refl
 zeros_at (suc m) (suc i) = zeros_at m i
+
+-- an array by default, each element 0, is one of zeros
+pub all_zeros : (n : ℕ) (xs : List ℕ) → AllOfLen (λ x. x ≡ 0) xs n → xs ≡ replicate n 0
+all_zeros n xs a = ext_get_or 0 xs (replicate n 0) (a.long ∙ sym (length-replicate n 0)) (λ i l. a.at i 0 (rw a.long at l) ∙ sym (zeros_at n i))
 
 -- a list filled so far has zeros from there on
 pub fill_zeros : (f : ℕ → ℕ) (m n : ℕ) → ZerosFrom n (fill f n (replicate m 0))

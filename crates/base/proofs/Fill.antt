@@ -21,9 +21,6 @@ pub fill_step : (f : ℕ → ℕ) (i v : ℕ) (xs l : List ℕ) → l ≡ fill f
 unfolding fill
 fill_step f i v xs l e h = rw (add-one i, e, h)
 
-pub fill_end : (f : ℕ → ℕ) (i n : ℕ) (xs l : List ℕ) → l ≡ fill f i xs → i ≡ n → l ≡ fill f n xs
-fill_end f i n xs l e h = rw (← h) e
-
 pub fill-length : (f : ℕ → ℕ) (n : ℕ) (xs : List ℕ) → length (fill f n xs) ≡ length xs
 unfolding fill
 fill-length f zero xs = refl

@@ -1,42 +1,18 @@
--- A first-bad search: one turn of its loop, and what its answer says. By induction on the entries that are left.
-use mathlib.Core.Path.{◌≡◌, refl, sym, ◌∙◌, ap}
+-- A first-bad search: what its answer says, and that `position` and `find` give the same. By induction on the entries that are left.
+use mathlib.Core.Path.{◌≡◌, refl, sym, ◌∙◌}
 use mathlib.Core.Bool.{Bool, true, false, cond, not}
 use mathlib.Core.List.{List}
 use mathlib.Core.Logic.{⊎_elim, ◌↔◌}
-use Prim.Native.Nat.{ℕ, zero, suc, ◌+◌, ◌-◌, ◌<◌, ◌≤◌}
+use Prim.Native.Nat.{ℕ, zero, suc, ◌+◌, ◌<◌, ◌≤◌}
 use native.Mathlib.Nat.{eq-or-lt_of_le}
-use native.Mathlib.Numerals.{add-one}
 use native.Mathlib.Omega.{arith}
 use borrow.Author.Tests.{ltb-true, ltb-false, not-true, not-false}
 use lib.Dec.{ltb}
 use lib.ListN.{length, get_or}
-use Rattle.std.specs.Prelude.{None, Some, position}
+use Rattle.std.specs.Prelude.{Option, None, Some, MatchOption, position}
 use Rattle.std.specs.List.{position_or_len}
 use Rattle.std.proofs.lemmas.List.Sums.{passes_at_first, fails_before_first}
 use Rattle.base.specs.Checks.{first_bad, lowest, Lowest}
-
--- a turn: the entry is bad, is good, or there is none
-pub bad-here : (good : ℕ → Bool) (n i : ℕ) → i < n → good i ≡ false → first_bad good (n - i) i ≡ Some i
-unfolding first_bad
-bad-here good n i h e =
-    let s : n - i ≡ suc (n - suc i) = omega arith in
-    rw (s, e)
-
-pub bad-next : (good : ℕ → Bool) (n i : ℕ) → i < n → good i ≡ true → first_bad good (n - i) i ≡ first_bad good (n - (i + 1)) (i + 1)
-unfolding first_bad
-bad-next good n i h e =
-    let s : n - i ≡ suc (n - suc i) = omega arith in
-    rw (add-one i, s, e)
-
-pub bad-none : (good : ℕ → Bool) (n i : ℕ) → n ≤ i → first_bad good (n - i) i ≡ None
-unfolding first_bad
-bad-none good n i h =
-    let s : n - i ≡ 0 = omega arith in
-    rw s
-
--- where a search begins
-pub bad-start : (good : ℕ → Bool) (n : ℕ) → first_bad good (n - 0) 0 ≡ lowest good n
-bad-start good n = ap (λ m. first_bad good m 0) (omega arith)
 
 -- p is the first of the d entries from i on that is not good
 record From (good : ℕ → Bool) (d i p : ℕ) : Type 0 where
@@ -138,3 +114,10 @@ here p good xs false h e =
 
 pub position_lowest : (p : ℕ → Bool) (good : ℕ → Bool) (xs : List ℕ) → ((i : ℕ) → i < length xs → p (get_or xs i 0) ≡ not (good i)) → position p xs ≡ lowest good (length xs)
 position_lowest p good xs h = here p good xs (ltb (position_or_len p xs) (length xs)) h refl
+
+-- what `find` gives over the numbers below n
+pub found_lowest : (good : ℕ → Bool) (n : ℕ) (r : Option ℕ)
+    → MatchOption r ((k : ℕ) → 0 ≤ k → k < n → good k ≡ true) (λ i. (0 ≤ i) × (i < n) × (good i ≡ false) × ((k : ℕ) → 0 ≤ k → k < i → good k ≡ true))
+    → r ≡ lowest good n
+found_lowest good n None h = sym (good-lowest good n (λ k l. h k (omega arith) l))
+found_lowest good n (Some p) h = sym ((lowest-bad good n p).1 (record { within = h.1; bad = h.2; before = λ k l. h.3 k (omega arith) l }))

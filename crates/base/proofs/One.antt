@@ -3,6 +3,8 @@ use mathlib.Core.Path.{sym, ◌∙◌}
 use Rattle.base.specs.Promises.{OneResult}
 use Rattle.base.proofs.passed.Kinds as passed-kinds
 use Rattle.base.proofs.passed.Reads as passed
+use Rattle.base.proofs.whole.Kinds as whole-kinds
+use Rattle.base.proofs.whole.Reads as whole
 use Rattle.base.proofs.le16.Kinds as le16-kinds
 use Rattle.base.proofs.le16.Reads as le16
 use Rattle.base.proofs.le32.Kinds as le32-kinds
@@ -14,6 +16,9 @@ use Rattle.base.proofs.below.Reads as below
 
 pub passed_one : OneResult 0 passed-kinds.ps passed-kinds.r passed.Post
 passed_one κs a r r' x x' p q = p ∙ sym q
+
+pub whole_one : OneResult 0 whole-kinds.ps whole-kinds.r whole.Post
+whole_one κs a r r' x x' p q = p ∙ sym q
 
 pub le16_one : OneResult 0 le16-kinds.ps le16-kinds.r le16.Post
 le16_one κs a r r' x x' p q = p ∙ sym q

@@ -3,7 +3,7 @@ use mathlib.Core.Path.{◌≡◌, refl, sym, ◌∙◌, ap}
 use mathlib.Core.List.{List}
 use mathlib.Core.Bool.{Bool, true, false, ◌&&◌}
 use mathlib.Core.Logic.{⊎_elim}
-use Prim.Native.Nat.{ℕ, zero, suc, ◌+◌, ◌<◌, ◌≤◌}
+use Prim.Native.Nat.{ℕ, zero, suc, ◌<◌, ◌≤◌}
 use native.Mathlib.Nat.{not-suc-le-zero, le_of_suc-le-suc, eq-or-lt_of_le}
 use native.Mathlib.Numerals.{add-one}
 use native.Mathlib.Omega.{arith}
@@ -66,9 +66,6 @@ apart b p q =
 
 pub every-false : (good : ℕ → Bool) (n k : ℕ) → k < n → good k ≡ false → every good n ≡ false
 every-false good n k h e = false_or_true (every good n) (λ t. apart (good k) (every_at good n t k h) e)
-
-pub every-step : (good : ℕ → Bool) (n : ℕ) → every good n ≡ true → good n ≡ true → every good (n + 1) ≡ true
-every-step good n e h = rw (add-one n, h) e
 
 -- the parts of four tests joined
 pub and_four : (a b c d : Bool) → (a && b && c && d) ≡ true → (a ≡ true) × (b ≡ true) × (c ≡ true) × (d ≡ true)

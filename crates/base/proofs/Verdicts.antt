@@ -5,7 +5,7 @@ use mathlib.Core.Logic.{◌↔◌}
 use mathlib.Core.List.{List, [], ◌∷◌, ◌++◌}
 use Prim.Native.Nat.{ℕ, suc, ◌<◌}
 use native.Mathlib.Omega.{arith}
-use borrow.Author.Tests.{eq-eqb, ne_eqb, eqb-true, eqb-false}
+use borrow.Author.Tests.{ne_eqb, eqb-true, eqb-false}
 use lib.Dec.{eqb}
 use Rattle.std.specs.Prelude.{Option, None, Some, Result, Ok, Err}
 use Rattle.base.specs.declared.Verdict.{Verdict}
@@ -78,10 +78,7 @@ whole-bad false p = (λ e. (refl, cc), λ h. ap Some (sym h.1))
 pub judged-bad : (v : Verdict) → (v.answer ≡ 0 → ⊥) → judged v ≡ Err v
 judged-bad v h = rw (ne_eqb v.answer 0 h)
 
--- the first check of a list decides where it is bad, and else the rest does
-pub judged-first : (n p : ℕ) (c : Option ℕ) (cs : List (ℕ × Option ℕ)) → 0 < n → c ≡ Some p → judged (verdict ((n, c) ∷ cs)) ≡ Err (answered n p)
-judged-first n p c cs h e = rw (verdict-bad n p c cs e) (judged-bad (answered n p) (λ z. omega arith))
-
+-- a check of a list is good: the rest decides
 pub judged-rest : (n : ℕ) (c : Option ℕ) (cs : List (ℕ × Option ℕ)) → c ≡ None → judged (verdict ((n, c) ∷ cs)) ≡ judged (verdict cs)
 judged-rest n c cs e = ap judged (verdict-good n c cs e)
 
@@ -106,6 +103,14 @@ asked-bad n c cs e h p = one_bad n c (verdict cs) e h p
 pub asked-good : (n : ℕ) (c : Option ℕ) (x : Unit) → passed n c ≡ Ok x → c ≡ None
 asked-good n None x p = refl
 asked-good n (Some q) x p = let z : ◌≡◌ {A = ℕ} 0 1 = cc in let y : ⊥ = omega arith in absurd y
+
+-- a check of a whole that was asked with `?`
+pub whole_granted : (n : ℕ) (b : Bool) (x : Unit) → passed n (whole b) ≡ Ok x → b ≡ true
+whole_granted n b x p = whole-good b (asked-good n (whole b) x p)
+
+pub whole_refused : (n : ℕ) (b : Bool) (e : Verdict) → passed n (whole b) ≡ Err e → (b ≡ false) × (e ≡ answered n 0)
+whole_refused n true e p = let z : ◌≡◌ {A = ℕ} 0 1 = cc in let y : ⊥ = omega arith in absurd y
+whole_refused n false e p = (refl, cc)
 
 -- and the other way round
 err_on : (v e : Verdict) (b : Bool) → eqb v.answer 0 ≡ b → ◌≡◌ {A = Result Unit Verdict} (cond b (Ok tt) (Err v)) (Err e) → (v ≡ e) × (v.answer ≡ 0 → ⊥)

@@ -3,7 +3,7 @@
 
 ghost use Rattle.std.specs.Prelude.{◌≡◌, ◌^◌, min, ltb};
 ghost use Rattle.base.specs.Bytes.{two, four};
-ghost use Rattle.base.specs.Checks.{passed};
+ghost use Rattle.base.specs.Checks.{passed, whole};
 
 // A number of the outline's table, and its place: what refuses a sheet. A number and no enum, since the outline names the checks of sheets by their numbers alone,
 // and the theorem `ExactAt` (specs/Checks) speaks of them so.
@@ -23,7 +23,14 @@ pub fn passed(answer: u32, bad: Option<usize>) -> Result<(), Verdict>
     }
 }
 
-// The number that two bytes hold, the low one first.
+// What a check gives that has no entries: its place is 0.
+pub fn whole(good: bool) -> Option<usize>
+    ensures { result ≡ whole good }
+{
+    if good { None } else { Some(0) }
+}
+
+// The number that two bytes hold, the low one first. It and `le32` are two functions, since a type's bytes are no parameter.
 pub fn le16(x: u8, y: u8) -> u16
     ensures { result ≡ two x y }
 {
@@ -37,7 +44,7 @@ pub fn le32(x: u8, y: u8, z: u8, u: u8) -> u32
     u32::from_le_bytes([x, y, z, u])
 }
 
-// The smaller of the two.
+// The smaller of the two. No other crate calls it: it is kept, since docs/PROMISES.md names it.
 pub fn least(x: usize, y: usize) -> usize
     ensures { result ≡ min x y }
 {

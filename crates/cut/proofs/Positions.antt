@@ -1,4 +1,5 @@
--- What `position` finds in a list is the lowest entry that is not good, where the test of the elements is true of what is not good.
+-- What `position` finds in a list is the lowest entry that is not good, where the test of the elements is true of what is not good: of a list of any type, and of its
+-- front (base's `position_lowest` is of numbers and of a whole list).
 use Rattle.std.proofs.Common.{◌≡◌, ℕ, ◌<◌, ◌≤◌, Bool, true, false, cond, not, ltb, List, length, get_or, take, sym, refl, ap, ◌∙◌, arith, ltb-true}
 use borrow.Author.Tests.{ltb-false, not-true, not-false}
 use Rattle.std.specs.Prelude.{None, Some, position}

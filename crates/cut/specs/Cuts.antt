@@ -21,15 +21,3 @@ no_cut =
       labels = 0;
       label = replicate 4096 0;
     }
-
--- a cut by its fields
-abbrev pub cut_with : ℕ → List ℕ → ℕ → List ℕ → ℕ → List ℕ → Cut
-cut_with nodes part queues depth labels label =
-    record {
-      nodes = nodes;
-      part = part;
-      queues = queues;
-      depth = depth;
-      labels = labels;
-      label = label;
-    }

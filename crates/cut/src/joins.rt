@@ -16,9 +16,9 @@ pub fn check_joined(queues: &queues::Queues) -> Option<usize>
     ensures { result ≡ lowest (λ p. some queues.now.count (λ q. eqb (get_or queues.now.from q 0) p || eqb (get_or queues.now.into q 0) p)) queues.now.parts }
 {
     let mut joined = [false; 256];
-    for q in 0..queues.count {
-        joined[queues.from[q] as usize] = true;
-        joined[queues.into[q] as usize] = true;
+    let n = queues.count;
+    for p in queues.from[..n].iter().chain(&queues.into[..n]) {
+        joined[*p as usize] = true;
     }
     first_alone(&joined[..queues.parts])
 }

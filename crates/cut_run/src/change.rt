@@ -1,30 +1,20 @@
-// What is done to a cut before it is written, by letters. The counts and entries are those of the bench. Each is an arm of one match, since a case's text has letters.
+// What is done to a cut before it is written, by letters. The counts and entries are those of the bench.
 use cut::Cut;
 
-// Every part number past the count, as rubbish.
-fn rubbish_parts(cut: &mut Cut) {
-    let from = cut.nodes.min(1024);
-    cut.part[from..].fill(0x77);
+// Every place from `from` on, as rubbish. net_run has it too: in run_text it would be public, with a promise of its own, for one line.
+fn rubbish<T: Copy>(cells: &mut [T], from: usize, x: T) {
+    for cell in cells.iter_mut().skip(from) {
+        *cell = x;
+    }
 }
 
-// Every depth past the count, as rubbish.
-fn rubbish_depths(cut: &mut Cut) {
-    let from = cut.queues.min(512);
-    cut.depth[from..].fill(0x99);
-}
-
-// Every label byte past the count, as rubbish, though text.
-fn rubbish_labels(cut: &mut Cut) {
-    let from = cut.labels.min(4096);
-    cut.label[from..].fill(b'a');
-}
-
-// A change: rubbish, how many part numbers, depths or label bytes there are said to be, or an entry.
+// A change: rubbish past a count (label bytes are text), how many part numbers, depths or label bytes there are said to be, or an entry. By a match on the letter,
+// which is what a case's text has; a table of closures would be no plainer.
 fn change(cut: &mut Cut, letter: u8) {
     match letter {
-        b'1' => rubbish_parts(cut),
-        b'2' => rubbish_depths(cut),
-        b'3' => rubbish_labels(cut),
+        b'1' => rubbish(&mut cut.part, cut.nodes, 0x77),
+        b'2' => rubbish(&mut cut.depth, cut.queues, 0x99),
+        b'3' => rubbish(&mut cut.label, cut.labels, b'a'),
         b'z' => cut.nodes = 0,
         b'm' => cut.nodes = 3,
         b'n' => cut.nodes = 5,
@@ -59,7 +49,8 @@ fn change(cut: &mut Cut, letter: u8) {
     }
 }
 
-// All the changes, in the order of their letters. '-' is none.
+// All the changes, in the order of their letters. '-' is none. net_run has it too: in run_text it would be public and take a closure that changes, of which
+// nothing exact could be promised.
 pub fn all(cut: &mut Cut, letters: &[u8]) {
     for letter in letters {
         change(cut, *letter);

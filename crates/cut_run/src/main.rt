@@ -60,7 +60,7 @@ fn run_line<W: Write>(
     Ok(n)
 }
 
-// The cases of the input.
+// The cases of the input. network_run has it too: in run_text it would be public and take a closure that prints, of which nothing exact could be promised.
 fn run_lines<R: Read, W: Write>(
     input: &mut R,
     out: &mut W,

@@ -5,12 +5,9 @@ use std::io::Write;
 
 // The first place where the text stands in the sheet, or the sheet's length.
 fn place(sheet: &[u8], text: &[u8]) -> usize {
-    for i in 0..sheet.len() {
-        if sheet[i..].starts_with(text) {
-            return i;
-        }
-    }
-    sheet.len()
+    (0..sheet.len())
+        .find(|i| sheet[*i..].starts_with(text))
+        .unwrap_or(sheet.len())
 }
 
 // Prints where the text stands.

@@ -1,5 +1,5 @@
 // A cut and its queues, number by number.
-use cut::Cut;
+use cut_sheet::CutRead;
 use queues::Queues;
 use run_text::{put_number, put_word};
 use std::io;
@@ -38,37 +38,37 @@ fn put_queues<W: Write>(out: &mut W, queues: &Queues) -> io::Result<()> {
 // Prints the nodes among the first n that have a queue, and their queues.
 fn put_map<W: Write>(out: &mut W, word: &[u8], map: &[u16], n: usize) -> io::Result<()> {
     put_word(out, word)?;
-    for i in 0..n.min(map.len()) {
-        if map[i] != 512 {
+    for (i, queue) in map.iter().enumerate().take(n) {
+        if *queue != 512 {
             put_number(out, i as u64)?;
-            put_number(out, u64::from(map[i]))?;
+            put_number(out, u64::from(*queue))?;
         }
     }
     Ok(())
 }
 
 // Prints the counts.
-pub fn counts<W: Write>(out: &mut W, cut: &Cut, queues: &Queues) -> io::Result<()> {
-    put_number(out, cut.nodes as u64)?;
-    put_number(out, cut.queues as u64)?;
-    put_number(out, cut.labels as u64)?;
-    put_number(out, queues.parts as u64)?;
-    put_number(out, queues.count as u64)?;
-    put_number(out, queues.inputs as u64)?;
-    put_number(out, queues.channels as u64)?;
-    put_number(out, queues.outputs as u64)
+pub fn counts<W: Write>(out: &mut W, r: &CutRead) -> io::Result<()> {
+    put_number(out, r.cut.nodes as u64)?;
+    put_number(out, r.cut.queues as u64)?;
+    put_number(out, r.cut.labels as u64)?;
+    put_number(out, r.queues.parts as u64)?;
+    put_number(out, r.queues.count as u64)?;
+    put_number(out, r.queues.inputs as u64)?;
+    put_number(out, r.queues.channels as u64)?;
+    put_number(out, r.queues.outputs as u64)
 }
 
 // Prints all.
-pub fn whole<W: Write>(out: &mut W, cut: &Cut, queues: &Queues) -> io::Result<()> {
+pub fn whole<W: Write>(out: &mut W, r: &CutRead) -> io::Result<()> {
     put_word(out, b"parts")?;
-    put_bytes(out, &cut.part, cut.nodes)?;
+    put_bytes(out, &r.cut.part, r.cut.nodes)?;
     put_word(out, b"depths")?;
-    put_bytes(out, &cut.depth, cut.queues)?;
+    put_bytes(out, &r.cut.depth, r.cut.queues)?;
     put_word(out, b"queues")?;
-    put_queues(out, queues)?;
-    put_map(out, b"input", &queues.input, cut.nodes)?;
-    put_map(out, b"a", &queues.a, cut.nodes)?;
-    put_map(out, b"b", &queues.b, cut.nodes)?;
-    put_map(out, b"c", &queues.c, cut.nodes)
+    put_queues(out, &r.queues)?;
+    put_map(out, b"input", &r.queues.input, r.cut.nodes)?;
+    put_map(out, b"a", &r.queues.a, r.cut.nodes)?;
+    put_map(out, b"b", &r.queues.b, r.cut.nodes)?;
+    put_map(out, b"c", &r.queues.c, r.cut.nodes)
 }

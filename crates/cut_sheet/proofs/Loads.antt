@@ -1,32 +1,16 @@
 -- The arrays that were loaded, together the cut of the sheet.
-use mathlib.Core.Path.{◌≡◌, refl, ◌∙◌, ap, ap₂}
-use mathlib.Core.List.{List, ◌++◌}
-use Prim.Native.Nat.{ℕ, ◌+◌, ◌≤◌, min}
+use mathlib.Core.Path.{◌≡◌, ◌∙◌, ap, ap₂}
+use mathlib.Core.List.{List}
+use Prim.Native.Nat.{ℕ, ◌+◌, ◌≤◌}
 use native.Mathlib.Nat.{zero-add}
 use native.Mathlib.Omega.{arith}
-use lib.ListN.{length, get_or, take, drop, replicate, length-drop}
-use lib.Seq.{length-take-le, get_or-take, get_or-drop}
+use lib.ListN.{length, get_or, take, drop, replicate}
 use Rattle.base.specs.Lists.{fill}
-use Rattle.base.proofs.Fill.{fill-same, fill_clipped}
-use Rattle.base.proofs.Windows.{window-copied}
+use Rattle.base.proofs.Fill.{fill-same}
+use Rattle.layout.proofs.Loads.{stretch_loaded}
 use Rattle.cut.specs.declared.Cut.{Cut}
 use Rattle.cut.specs.Cuts.{no_cut}
 use Rattle.cut_sheet.specs.Reading.{cut_from}
-
--- some bytes, or as many as there is room for, copied to the front of a list
-pub filled : (bs xs ys : List ℕ) (k : ℕ) → k ≡ min (length bs) (length xs) → ys ≡ take k bs → ys ++ drop k xs ≡ fill (λ j. get_or bs j 0) (length bs) xs
-filled bs xs ys k e h =
-    ap (λ l. l ++ drop k xs) h
-    ∙ window-copied bs xs 0 k (omega arith) (omega arith)
-    ∙ fill-same (λ j. get_or bs (0 + j) 0) (λ j. get_or bs j 0) k xs (λ j b. ap (λ i. get_or bs i 0) (zero-add j))
-    ∙ fill_clipped (λ j. get_or bs j 0) (length bs) (length xs) k xs _ refl e refl
-
--- a stretch of the sheet, loaded
-loaded : (s : List ℕ) (m k : ℕ) (xs : List ℕ) → m + k ≤ length s → fill (λ j. get_or (take k (drop m s)) j 0) (length (take k (drop m s))) xs ≡ fill (λ j. get_or s (m + j) 0) k xs
-loaded s m k xs h =
-    let l : length (take k (drop m s)) ≡ k = length-take-le k (drop m s) (rw (length-drop m s) (omega arith)) in
-    ap (λ n. fill (λ j. get_or (take k (drop m s)) j 0) n xs) l
-    ∙ fill-same (λ j. get_or (take k (drop m s)) j 0) (λ j. get_or s (m + j) 0) k xs (λ j b. get_or-take k (drop m s) j 0 b ∙ get_or-drop m s j 0)
 
 pub cut_from_is : (s : List ℕ) (front middle labels m k : ℕ) (z : Cut) (part depth label : List ℕ)
     → front + (middle + labels) ≤ length s
@@ -49,9 +33,9 @@ pub cut_from_is : (s : List ℕ) (front middle labels m k : ℕ) (z : Cut) (part
 unfolding cut_from no_cut
 cut_from_is s front middle labels m k z part depth label h hm hk e p d l =
     let first : part ≡ fill (λ i. get_or s i 0) front (replicate 1024 0) =
-    p ∙ loaded s 0 front z.part (omega arith) ∙ fill-same (λ i. get_or s (0 + i) 0) (λ i. get_or s i 0) front z.part (λ i b. ap (λ k. get_or s k 0) (zero-add i)) ∙ ap (λ x. fill (λ i. get_or s i 0) front x.part) e in
+    p ∙ stretch_loaded s 0 front z.part (omega arith) ∙ fill-same (λ i. get_or s (0 + i) 0) (λ i. get_or s i 0) front z.part (λ i b. ap (λ k. get_or s k 0) (zero-add i)) ∙ ap (λ x. fill (λ i. get_or s i 0) front x.part) e in
     let second : depth ≡ fill (λ q. get_or s (front + q) 0) middle (replicate 512 0) =
-    d ∙ loaded s front m z.depth (omega arith) ∙ ap₂ (λ n x. fill (λ q. get_or s (front + q) 0) n x.depth) hm e in
+    d ∙ stretch_loaded s front m z.depth (omega arith) ∙ ap₂ (λ n x. fill (λ q. get_or s (front + q) 0) n x.depth) hm e in
     let third : label ≡ fill (λ j. get_or s (front + middle + j) 0) labels (replicate 4096 0) =
-    l ∙ loaded s (front + middle) k z.label (omega arith) ∙ ap₂ (λ n x. fill (λ j. get_or s (front + middle + j) 0) n x.label) hk e in
+    l ∙ stretch_loaded s (front + middle) k z.label (omega arith) ∙ ap₂ (λ n x. fill (λ j. get_or s (front + middle + j) 0) n x.label) hk e in
     rw (first, second, third)

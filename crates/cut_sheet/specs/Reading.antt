@@ -1,13 +1,14 @@
 -- What a cut sheet says, and the checks 7 to 11 on it (outline, "The cut sheet" and "Numbers given back").
 use Rattle.std.specs.Prelude.{Bool, cond, ◌&&◌, List, ◌∷◌, ℕ, ◌+◌, eqb, leb, length, get_or, replicate}
 use Rattle.base.specs.Lists.{fill}
-use Rattle.std.specs.Prelude.{Option}
+use Rattle.std.specs.Prelude.{Option, Result, Ok, Err}
 use Rattle.base.specs.declared.Verdict.{Verdict}
 use Rattle.base.specs.Checks.{whole, verdict}
 use Rattle.layout.specs.Trailer.{trailer_good, front_bytes, middle_bytes, label_bytes}
 use Rattle.netlist.specs.declared.Netlist.{Netlist}
 use Rattle.netlist.specs.Checks.{numbers_good}
 use Rattle.queues.specs.Found.{found, no_queues}
+use Rattle.queues.specs.declared.Queues.{Queues}
 use Rattle.cut.specs.declared.Cut.{Cut}
 use Rattle.cut.specs.Cuts.{no_cut}
 use Rattle.cut.specs.Checks.{labels_few, part_checks}
@@ -49,3 +50,8 @@ cut_read n s =
       cut = cond (eqb (read_verdict n s).answer 0) (cut_of s) no_cut;
       queues = cond (eqb (read_verdict n s).answer 0) (found n (cut_of s).part) no_queues;
     }
+
+-- the same of a reader's result: the cut and its queues, or what refuses
+abbrev pub read_for_c : Result (Cut × Queues) Verdict → CutRead
+read_for_c (Ok p) = record { answer = 0; place = 0; cut = p.0; queues = p.1 }
+read_for_c (Err v) = record { answer = v.answer; place = v.place; cut = no_cut; queues = no_queues }

@@ -5,5 +5,5 @@ mod load;
 mod read;
 mod write;
 
-pub use read::{CutRead, read_cut};
+pub use read::{CutRead, read_cut, read_for_c};
 pub use write::write_cut;

@@ -1,8 +1,6 @@
 // The reader: a netlist and any bytes in; answer, place, cut and queues out.
 ghost use Rattle.std.specs.Prelude.{◌≡◌};
-ghost use Rattle.queues.specs.Found.{no_queues};
-ghost use Rattle.cut.specs.Cuts.{no_cut};
-ghost use Rattle.cut_sheet.specs.Reading.{cut_read};
+ghost use Rattle.cut_sheet.specs.Reading.{cut_read, read_for_c};
 
 // How many label bytes a cut has at most.
 const LABELS: usize = 4096;
@@ -17,40 +15,49 @@ pub struct CutRead {
     pub queues: queues::Queues,
 }
 
-fn refused(answer: u32, place: usize) -> CutRead
-    ensures { result ≡ record { answer = answer; place = place; cut = no_cut; queues = no_queues } }
+// What a reader settles, the cut and its queues or what refuses, as C sees it.
+pub fn read_for_c(read: Result<(cut::Cut, queues::Queues), base::Verdict>) -> CutRead
+    ensures { result ≡ read_for_c read }
 {
-    let cut = cut::no_cut();
-    let queues = queues::no_queues();
-    CutRead {
-        answer,
-        place,
-        cut,
-        queues,
+    match read {
+        Ok((cut, queues)) => CutRead {
+            answer: 0,
+            place: 0,
+            cut,
+            queues,
+        },
+        Err(v) => CutRead {
+            answer: v.answer,
+            place: v.place,
+            cut: cut::no_cut(),
+            queues: queues::no_queues(),
+        },
     }
+}
+
+// The checks 7 to 11, and the cut with its queues where all are good.
+fn cut_checked(
+    net: &netlist::Netlist,
+    sheet: &[u8],
+) -> Result<(cut::Cut, queues::Queues), base::Verdict>
+    ensures { read_for_c result ≡ cut_read net.now sheet.now }
+{
+    base::passed(3, base::whole(netlist::numbers_good(net)))?;
+    let Some(s) = layout::find_sections(sheet, 0x43) else {
+        return Err(base::Verdict {
+            answer: 7,
+            place: 0,
+        });
+    };
+    base::passed(7, base::whole(s.labels <= LABELS))?;
+    let cut = crate::load::cut_from(sheet, s);
+    let queues = cut::check_cut(net, &cut)?;
+    Ok((cut, queues))
 }
 
 // Reads a cut sheet for a netlist that was read: the checks 7 to 11.
 pub fn read_cut(net: &netlist::Netlist, sheet: &[u8]) -> CutRead
     ensures { result ≡ cut_read net.now sheet.now }
 {
-    if !netlist::numbers_good(net) {
-        return refused(3, 0);
-    }
-    let Some(s) = layout::find_sections(sheet, 0x43) else {
-        return refused(7, 0);
-    };
-    if s.labels > LABELS {
-        return refused(7, 0);
-    }
-    let cut = crate::load::cut_from(sheet, s);
-    match cut::check_cut(net, &cut) {
-        Ok(queues) => CutRead {
-            answer: 0,
-            place: 0,
-            cut,
-            queues,
-        },
-        Err(v) => refused(v.answer, v.place),
-    }
+    read_for_c(cut_checked(net, sheet))
 }

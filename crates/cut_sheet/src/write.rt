@@ -1,6 +1,7 @@
 // The writer: any netlist and cut in; answer, place and length out, and the sheet in a lent image.
 ghost use Rattle.std.specs.Prelude.{◌≡◌, ◌+◌, ◌≤◌, length};
 ghost use Rattle.base.specs.Lists.{patch};
+ghost use Rattle.layout.specs.Write.{wrote_for_c};
 ghost use Rattle.cut_sheet.specs.Image.{cut_image};
 ghost use Rattle.cut_sheet.specs.Writing.{cut_wrote, cut_written};
 
@@ -19,29 +20,24 @@ fn put_cut(image: &mut [u8], cut: &cut::Cut)
     layout::put_bytes(image, nodes + queues + labels, &trailer);
 }
 
+// The checks 7 to 11, then 16, and the whole sheet where all are good: its length.
+fn put_checked(
+    net: &netlist::Netlist,
+    cut: &cut::Cut,
+    image: &mut [u8],
+) -> Result<usize, base::Verdict>
+    ensures { (wrote_for_c result ≡ cut_wrote net.now cut.now (length image.old)) × (image.new ≡ cut_written net.now cut.now image.old) }
+{
+    cut::check_cut(net, cut)?;
+    let size = cut.nodes + cut.queues + cut.labels + 16;
+    base::passed(16, base::whole(size <= image.len()))?;
+    put_cut(image, cut);
+    Ok(size)
+}
+
 // Writes a cut sheet for a netlist: the checks 7 to 11, then 16.
 pub fn write_cut(net: &netlist::Netlist, cut: &cut::Cut, image: &mut [u8]) -> layout::Wrote
     ensures { (result ≡ cut_wrote net.now cut.now (length image.old)) × (image.new ≡ cut_written net.now cut.now image.old) }
 {
-    if let Err(v) = cut::check_cut(net, cut) {
-        return layout::Wrote {
-            answer: v.answer,
-            place: v.place,
-            length: 0,
-        };
-    }
-    let size = cut.nodes + cut.queues + cut.labels + 16;
-    if image.len() < size {
-        return layout::Wrote {
-            answer: 16,
-            place: 0,
-            length: 0,
-        };
-    }
-    put_cut(image, cut);
-    layout::Wrote {
-        answer: 0,
-        place: 0,
-        length: size,
-    }
+    layout::wrote_for_c(put_checked(net, cut, image))
 }

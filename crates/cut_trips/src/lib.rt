@@ -1,4 +1,5 @@
 // A cut sheet there and back, as one promise: what was read and written again is the same bytes.
+// net_trips is its twin for net sheets: a trait of readers and writers would be longer than both.
 #![tactic(auto)]
 
 ghost use Rattle.std.specs.Prelude.{◌≡◌, length};
@@ -13,11 +14,10 @@ pub fn copy_cut(net: &netlist::Netlist, sheet: &[u8], image: &mut [u8]) -> layou
     if got.answer == 0 {
         cut_sheet::write_cut(net, &got.cut, image)
     } else {
-        layout::Wrote {
+        layout::wrote_for_c(Err(base::Verdict {
             answer: got.answer,
             place: got.place,
-            length: 0,
-        }
+        }))
     }
 }
 
@@ -25,17 +25,15 @@ pub fn copy_cut(net: &netlist::Netlist, sheet: &[u8], image: &mut [u8]) -> layou
 pub fn reread_cut(net: &netlist::Netlist, cut: &cut::Cut, image: &mut [u8]) -> cut_sheet::CutRead
     ensures { (result ≡ reread net.now cut.now (length image.old)) × (image.new ≡ cut_written net.now cut.now image.old) }
 {
-    // That a byte is one: what is read of the cut here is known to be of its type behind the reference too.
+    // A byte is below 256: said here, the check knows it of what the reference lends.
     prove!(cut.part[0] <= 255);
     let wrote = cut_sheet::write_cut(net, cut, image);
     if wrote.answer == 0 {
         cut_sheet::read_cut(net, &image[..wrote.length])
     } else {
-        cut_sheet::CutRead {
+        cut_sheet::read_for_c(Err(base::Verdict {
             answer: wrote.answer,
             place: wrote.place,
-            cut: cut::no_cut(),
-            queues: queues::no_queues(),
-        }
+        }))
     }
 }

@@ -8,6 +8,7 @@ use std::io::Write;
 pub const MARK: u32 = 0xA5A5A5A5;
 
 // Puts the numbers of a text into `list`, as many as there is room for, and gives how many they are. A space stands before each.
+// By index: of what is written through an adapter of `iter_mut` a proof knows the length alone, and not how many they are.
 pub fn numbers(text: &[u8], list: &mut [u32]) -> usize
     ensures { result ≤ length list.new }
 {

@@ -20,7 +20,12 @@ fn run_sheet<W: Write>(
 ) -> io::Result<()> {
     let r = net_sheet::read_net(sheet);
     if r.answer == 0 {
-        run::both(out, &r.net, cycles, room as usize, ins)
+        let case = run::Case {
+            net: &r.net,
+            cycles,
+            ins,
+        };
+        run::both(out, &case, room as usize)
     } else {
         put_word(out, b"read")?;
         put_number(out, u64::from(r.answer))?;
@@ -57,7 +62,7 @@ fn run_line<W: Write>(out: &mut W, line: &[u8]) -> io::Result<()> {
 }
 
 // The cases of standard input, each ended by a line end. An error of standard input or output ends the program with it: what was printed before stands, and
-// the cases after it are left out.
+// the cases after it are left out. net_run has it too: in run_text it would be public and take a closure that prints, of which nothing exact could be promised.
 fn main(rt: HostRuntime) -> io::Result<()> {
     let mut input = [0u8; 400000];
     let n = run_text::read_full(&mut rt.stdin(), &mut input)?;

@@ -1,6 +1,7 @@
 pub mod Unique
 pub mod Exists
 pub mod Accepted
+pub mod Alls
 pub mod Below
 pub mod Meaning
 pub mod Listed

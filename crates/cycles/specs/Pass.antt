@@ -1,6 +1,7 @@
 -- One pass over the nodes, in their order: what the private functions of a cycle leave. No public promise speaks of it: those are in Steps, over whatever solves the cycle.
 use Rattle.std.specs.Prelude.{cond, List, ℕ, zero, suc, ◌+◌, ◌%◌, get_or, set}
 use Rattle.codes.specs.Rows.{is_in, is_reg}
+use Rattle.netlist.specs.declared.Netlist.{Netlist}
 use Rattle.values.specs.Values.{value_of}
 use Rattle.cycles.specs.Inputs.{ins_in}
 
@@ -15,6 +16,10 @@ pub record Fields : Type 0 where
 
 abbrev pub mk : List ℕ → List ℕ → List ℕ → List ℕ → List ℕ → List ℕ → Fields
 mk code width a b c k = record { code = code; width = width; a = a; b = b; c = c; k = k }
+
+-- those of a netlist
+abbrev pub fields_of : Netlist → Fields
+fields_of N = mk N.code N.width N.a N.b N.c N.k
 
 -- a stored number as an index
 abbrev pub inside : ℕ → ℕ

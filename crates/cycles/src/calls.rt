@@ -15,15 +15,7 @@ fn inputs_fit(width: &[u8; 1024], list: &[u16], cycles: usize, ins: &[u32]) -> b
     ensures { result ≡ every (λ t. list_fits width.now list.now ins.now (t * length list.now) (length list.now)) cycles }
 {
     let per = list.len();
-    if per == 0 {
-        return true;
-    }
-    for t in 0..cycles {
-        if !crate::inputs::cycle_fits(width, list, ins, t * per) {
-            return false;
-        }
-    }
-    true
+    per == 0 || (0..cycles).all(|t| crate::inputs::cycle_fits(width, list, ins, t * per))
 }
 
 // The cycles themselves, where nothing is refused.

@@ -7,10 +7,7 @@ pub fn cycle_fits(width: &[u8; 1024], list: &[u16], ins: &[u32], at: usize) -> b
     requires { at + length list.now ≤ length ins.now }
     ensures { result ≡ list_fits width.now list.now ins.now at (length list.now) }
 {
-    for (j, i) in list.iter().enumerate() {
-        if !base::below(ins[at + j], width[*i as usize % 1024]) {
-            return false;
-        }
-    }
-    true
+    list.iter()
+        .zip(&ins[at..])
+        .all(|(i, x)| base::below(*x, width[*i as usize % 1024]))
 }

@@ -3,6 +3,7 @@
 use Rattle.std.specs.Prelude.{Bool, true, false, cond, ◌&&◌, List, ℕ, zero, suc, ◌+◌, ◌*◌, ◌%◌, ltb, get_or, set}
 use Rattle.codes.specs.Rows.{is_in, is_reg}
 use Rattle.values.specs.Values.{value_of}
+use Rattle.plans.specs.declared.Plan.{Plan}
 
 -- The nodes' fields, by lists: code, width, the width of the second operand, k, and where each operand is read.
 -- Places 0 to 1,023 are the nodes', 1,024 to 1,535 the queues' oldest tokens, and those behind are nowhere: a field that is no operand is read there.
@@ -17,6 +18,10 @@ pub record Fields : Type 0 where
 
 abbrev pub mk : List ℕ → List ℕ → List ℕ → List ℕ → List ℕ → List ℕ → List ℕ → Fields
 mk code width join k ra rb rc = record { code = code; width = width; join = join; k = k; ra = ra; rb = rb; rc = rc }
+
+-- those of a plan
+abbrev pub fields_of : Plan → Fields
+fields_of P = mk P.code P.width P.join P.k P.ra P.rb P.rc
 
 -- where a node reads, whatever number is stored
 abbrev pub spot : List ℕ → ℕ → ℕ

@@ -2,7 +2,7 @@
 #![tactic(auto)]
 
 ghost use Rattle.std.specs.Prelude.{◌≡◌, ◌-◌, ◌<◌, min};
-ghost use Rattle.evals.specs.Passes.{mk, value_now, met_now, vals_after, mets_after, tokens_in, tokens_there};
+ghost use Rattle.evals.specs.Passes.{fields_of, value_now, met_now, vals_after, mets_after, tokens_in, tokens_there};
 
 use lanes::Network;
 use plans::Plan;
@@ -26,7 +26,7 @@ impl Found {
     #[tactic(auto, unfolding(crate::specs::Passes::value_now))]
     fn value(&self, plan: &Plan, held: &[u32; 1024], i: usize) -> u32
         requires { i < 1024 }
-        ensures { result ≡ value_now (mk plan.now.code plan.now.width plan.now.join plan.now.k plan.now.ra plan.now.rb plan.now.rc) held.now self.now.vals i }
+        ensures { result ≡ value_now (fields_of plan.now) held.now self.now.vals i }
     {
         let p = plan.ra[i] as usize % 2048;
         let q = plan.rb[i] as usize % 2048;
@@ -50,7 +50,7 @@ impl Found {
     #[tactic(auto, unfolding(crate::specs::Passes::met_now))]
     fn met(&self, plan: &Plan, i: usize) -> bool
         requires { i < 1024 }
-        ensures { result ≡ met_now (mk plan.now.code plan.now.width plan.now.join plan.now.k plan.now.ra plan.now.rb plan.now.rc) self.now.mets i }
+        ensures { result ≡ met_now (fields_of plan.now) self.now.mets i }
     {
         let p = plan.ra[i] as usize % 2048;
         let q = plan.rb[i] as usize % 2048;
@@ -64,7 +64,7 @@ impl Found {
 
     // Evaluates the nodes from lo up to hi, or up to the arrays' end, in their order.
     pub fn evaluate(&mut self, plan: &Plan, held: &[u32; 1024], lo: usize, hi: usize)
-        ensures { (self.new.vals ≡ vals_after (mk plan.now.code plan.now.width plan.now.join plan.now.k plan.now.ra plan.now.rb plan.now.rc) held.now lo (min hi 1024 - lo) self.old.vals) × (self.new.mets ≡ mets_after (mk plan.now.code plan.now.width plan.now.join plan.now.k plan.now.ra plan.now.rb plan.now.rc) lo (min hi 1024 - lo) self.old.mets) }
+        ensures { (self.new.vals ≡ vals_after (fields_of plan.now) held.now lo (min hi 1024 - lo) self.old.vals) × (self.new.mets ≡ mets_after (fields_of plan.now) lo (min hi 1024 - lo) self.old.mets) }
     {
         for i in lo..hi.min(1024) {
             let x = self.value(plan, held, i);

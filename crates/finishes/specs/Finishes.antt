@@ -3,6 +3,8 @@
 use Rattle.std.specs.Prelude.{ℕ, zero, suc, ◌+◌, ◌-◌, ◌%◌, ◌^◌, min, Bool, false, cond, not, ◌&&◌, List, replicate, nat_lt, slice_index, slice_index_or, slice_set}
 use Rattle.codes.specs.Rows.{is_reg}
 use Rattle.lanes.specs.Lanes.{take_cells, take_used}
+use Rattle.plans.specs.declared.Plan.{Plan}
+use Rattle.lanes.specs.declared.Network.{Network}
 
 -- a stored part number, and where a stored place is read, within their arrays whatever they are
 abbrev pub part_in : List ℕ → ℕ → ℕ
@@ -57,3 +59,7 @@ finished fin (suc n) = finished fin n + cond (slice_index_or fin n false) 1 0
 -- the parts from lo up to hi whose Finish is ready, by the first n queues
 unfoldable pub finishing : List ℕ → List ℕ → List Bool → List ℕ → List ℕ → ℕ → ℕ → ℕ → ℕ → List Bool
 finishing from into flag used count limit n lo hi = cleared from into flag used (min n 512) (below count limit lo (min hi 32 - lo) (replicate 64 false))
+
+-- those of a plan and a network
+abbrev pub finishing_on : Plan → Network → ℕ → ℕ → List Bool
+finishing_on P N lo hi = finishing P.from P.into N.flag N.used N.count P.limit P.queues lo hi

@@ -3,7 +3,7 @@
 
 ghost use Rattle.std.specs.Prelude.{◌≡◌, min};
 ghost use Rattle.base.specs.Lists.{fill};
-ghost use Rattle.finishes.specs.Finishes.{next_held, used_after, cells_after, flags_after, next_count, finished, finishing};
+ghost use Rattle.finishes.specs.Finishes.{next_held, used_after, cells_after, flags_after, next_count, finished, finishing_on};
 
 use evals::Found;
 use lanes::Network;
@@ -12,7 +12,7 @@ use plans::Plan;
 // Marks the parts from lo up to hi whose Finish is ready: below the limit, no flag off, and no incoming queue without a token. A stored part is taken within the
 // marks whatever it is.
 fn ready(plan: &Plan, network: &Network, lo: usize, hi: usize) -> [bool; 64]
-    ensures { result ≡ (finishing plan.now.from plan.now.into network.now.flag network.now.used network.now.count plan.now.limit plan.now.queues lo hi) }
+    ensures { result ≡ finishing_on plan.now network.now lo hi }
 {
     let mut fin = [false; 64];
     for p in lo..hi.min(32) {
@@ -54,7 +54,7 @@ fn take_all(plan: &Plan, fin: &[bool; 64], network: &mut Network)
     }
 }
 
-// Counts one cycle for each marked part of the first n.
+// Counts one cycle for each marked part of the first n. By index: of what is written through an adapter of `iter_mut` a proof knows the length alone.
 fn count_cycles(n: usize, fin: &[bool; 64], count: &mut [u32; 32])
     ensures { count.new ≡ fill (next_count fin.now count.old) (min n 32) count.old }
 {
@@ -74,7 +74,7 @@ fn count_marked(n: usize, fin: &[bool; 64]) -> usize
 
 // How many Finishes of the parts from lo up to hi are ready.
 pub fn finish_asked(plan: &Plan, network: &Network, lo: usize, hi: usize) -> usize
-    ensures { result ≡ finished (finishing plan.now.from plan.now.into network.now.flag network.now.used network.now.count plan.now.limit plan.now.queues lo hi) (min hi 32) }
+    ensures { result ≡ finished (finishing_on plan.now network.now lo hi) (min hi 32) }
 {
     count_marked(hi, &ready(plan, network, lo, hi))
 }
@@ -87,7 +87,7 @@ pub fn finish_rules(
     hi: usize,
     found: &Found,
 ) -> usize
-    ensures { (result ≡ finished (finishing plan.now.from plan.now.into network.old.flag network.old.used network.old.count plan.now.limit plan.now.queues lo hi) (min hi 32)) × (network.new.cells ≡ cells_after plan.now.into (finishing plan.now.from plan.now.into network.old.flag network.old.used network.old.count plan.now.limit plan.now.queues lo hi) (min plan.now.queues 512) network.old.used network.old.cells) × (network.new.used ≡ used_after plan.now.into (finishing plan.now.from plan.now.into network.old.flag network.old.used network.old.count plan.now.limit plan.now.queues lo hi) (min plan.now.queues 512) network.old.used) × (network.new.flag ≡ flags_after plan.now.from (finishing plan.now.from plan.now.into network.old.flag network.old.used network.old.count plan.now.limit plan.now.queues lo hi) (min plan.now.queues 512) network.old.flag) × (network.new.held ≡ fill (next_held plan.now.code plan.now.ra plan.now.part found.now.vals (finishing plan.now.from plan.now.into network.old.flag network.old.used network.old.count plan.now.limit plan.now.queues lo hi) network.old.held) (min plan.now.nodes 1024) network.old.held) × (network.new.count ≡ fill (next_count (finishing plan.now.from plan.now.into network.old.flag network.old.used network.old.count plan.now.limit plan.now.queues lo hi) network.old.count) (min hi 32) network.old.count) }
+    ensures { (result ≡ finished (finishing_on plan.now network.old lo hi) (min hi 32)) × (network.new.cells ≡ cells_after plan.now.into (finishing_on plan.now network.old lo hi) (min plan.now.queues 512) network.old.used network.old.cells) × (network.new.used ≡ used_after plan.now.into (finishing_on plan.now network.old lo hi) (min plan.now.queues 512) network.old.used) × (network.new.flag ≡ flags_after plan.now.from (finishing_on plan.now network.old lo hi) (min plan.now.queues 512) network.old.flag) × (network.new.held ≡ fill (next_held plan.now.code plan.now.ra plan.now.part found.now.vals (finishing_on plan.now network.old lo hi) network.old.held) (min plan.now.nodes 1024) network.old.held) × (network.new.count ≡ fill (next_count (finishing_on plan.now network.old lo hi) network.old.count) (min hi 32) network.old.count) }
 {
     let fin = ready(plan, network, lo, hi);
     change_held(plan, &fin, found, &mut network.held);

@@ -8,9 +8,7 @@ use Rattle.lanes.proofs.Network.take.Kinds as take-kinds
 use Rattle.lanes.proofs.Network.take.Reads as take
 
 pub push_one : OneOutcome {A = Network} 1 push-kinds.ps push-kinds.r push.Post (λ κs x. x.0.now)
-push_one κs a r r' x x' p q =
-    (refl, λ i. record { cells = (p.0 ∙ sym q.0) i; used = (p.1 ∙ sym q.1) i; flag = (p.2 ∙ sym q.2) i; held = (p.3 ∙ sym q.3) i; count = (p.4 ∙ sym q.4) i })
+push_one κs a r r' x x' p q = (refl, p ∙ sym q)
 
 pub take-one : OneOutcome {A = Network} 1 take-kinds.ps take-kinds.r take.Post (λ κs x. x.0.now)
-take-one κs a r r' x x' p q =
-    (refl, λ i. record { cells = (p.0 ∙ sym q.0) i; used = (p.1 ∙ sym q.1) i; flag = (p.2 ∙ sym q.2) i; held = (p.3 ∙ sym q.3) i; count = (p.4 ∙ sym q.4) i })
+take-one κs a r r' x x' p q = (refl, p ∙ sym q)

@@ -1,6 +1,6 @@
 // Bytes put into a lent image.
 ghost use Rattle.std.specs.Prelude.{◌≡◌};
-ghost use Rattle.layout.specs.Write.{placed};
+ghost use Rattle.layout.specs.Write.{placed, wrote_for_c};
 
 // What writing a sheet gives, as C sees it and so with its answer as a number: on a refusal the length is 0.
 #[repr(C)]
@@ -9,6 +9,24 @@ pub struct Wrote {
     pub answer: u32,
     pub place: usize,
     pub length: usize,
+}
+
+// What a writer settles, the sheet's length or what refuses, as C sees it.
+pub fn wrote_for_c(wrote: Result<usize, base::Verdict>) -> Wrote
+    ensures { result ≡ wrote_for_c wrote }
+{
+    match wrote {
+        Ok(length) => Wrote {
+            answer: 0,
+            place: 0,
+            length,
+        },
+        Err(v) => Wrote {
+            answer: v.answer,
+            place: v.place,
+            length: 0,
+        },
+    }
 }
 
 // Puts `from` into the image from byte `at` on; where it does not fit, nothing.

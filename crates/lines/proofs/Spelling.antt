@@ -1,20 +1,12 @@
--- Decimals are spelled from the last digit on, each before those that are there: laws for one byte more in front, and for the first digit.
-use mathlib.Core.Path.{◌≡◌, sym, ap, ap₂, ◌∙◌}
+-- Decimals are spelled from the last digit on, each before those that are there: laws for a turn of the loop, and for the first digit.
+use mathlib.Core.Path.{◌≡◌, sym, ap, ◌∙◌}
 use mathlib.Core.List.{List, [], ◌∷◌, ◌++◌, append_assoc}
-use Prim.Native.Nat.{ℕ, suc, ◌+◌, ◌-◌, ◌/◌, ◌%◌, ◌^◌, ◌<◌, ◌≤◌}
+use Prim.Native.Nat.{ℕ, ◌+◌, ◌/◌, ◌%◌, ◌^◌, ◌<◌, ◌≤◌}
 use native.Mathlib.Nat.{mod-eq_of_lt}
 use native.Mathlib.Omega.{arith}
-use lib.ListN.{length, drop, set, length-set, length-append}
-use lib.Seq.{drop-cons, drop-set-lt, get_or-set_same}
+use lib.ListN.{length, length-append}
 use Rattle.std.specs.Fmt.{decimal}
 use Rattle.std.proofs.lemmas.Fmt.{decimal_digit, decimal_step}
-
-pub before_last : (l : List ℕ) (i b : ℕ) → 0 < i → i ≤ length l → drop (i - 1) (set l (i - 1) b) ≡ b ∷ drop i l
-before_last l i b h k =
-    let e : i ≡ suc (i - 1) = omega arith in
-    let j : i - 1 < length l = omega arith in
-    drop-cons (set l (i - 1) b) (i - 1) 0 (rw (length-set l (i - 1) b) j)
-    ∙ ap₂ (λ x xs. x ∷ xs) (get_or-set_same l (i - 1) b 0 j) (drop-set-lt (suc (i - 1)) l (i - 1) b (omega arith) ∙ ap (λ n. drop n l) (sym e))
 
 -- a turn of the loop: the last digit goes before the bytes that are there, and the digits that are left are one fewer
 pub spell_turn : (n : ℕ) (before after whole : List ℕ) → 9 < n → n < 2 ^ 64 → after ≡ (48 + n % 10) ∷ before → decimal n ++ before ≡ whole → (length (decimal n) ≡ length (decimal (n / 10)) + 1) × (decimal (n / 10) ++ after ≡ whole)

@@ -3,10 +3,10 @@ use mathlib.Core.Path.{sym, ◌∙◌, ap}
 use Rattle.base.specs.Promises.{OneResult, OneOutcome}
 use Rattle.lanes.specs.declared.Network.{Network}
 use Rattle.refusals.proofs.Numbers.{answer-one, given-one}
-use Rattle.moves.proofs.drained_for_c.Kinds as drained-kinds
-use Rattle.moves.proofs.drained_for_c.Reads as drained
-use Rattle.moves.proofs.told_for_c.Kinds as told-kinds
-use Rattle.moves.proofs.told_for_c.Reads as told
+use Rattle.moves.proofs.DrainedFromResultU32Refusal.from.Kinds as drained-kinds
+use Rattle.moves.proofs.DrainedFromResultU32Refusal.from.Reads as drained
+use Rattle.moves.proofs.ToldFromResultU32Refusal.from.Kinds as told-kinds
+use Rattle.moves.proofs.ToldFromResultU32Refusal.from.Reads as told
 use Rattle.moves.proofs.feed.Kinds as feed-kinds
 use Rattle.moves.proofs.feed.Reads as feed
 use Rattle.moves.proofs.drain.Kinds as drain-kinds
@@ -34,8 +34,8 @@ finished_one κs a r r' x x' p q =
     let e = p ∙ sym q in
     given-one r r' (ap (λ t. t.answer) e) (ap (λ t. t.value) e)
 
-pub drained_for_c_one : OneResult 0 drained-kinds.ps drained-kinds.r drained.Post
-drained_for_c_one κs a r r' x x' p q = p ∙ sym q
+pub drained_from_one : OneResult 0 drained-kinds.ps drained-kinds.r drained.Post
+drained_from_one κs a r r' x x' p q = p ∙ sym q
 
-pub told_for_c_one : OneResult 0 told-kinds.ps told-kinds.r told.Post
-told_for_c_one κs a r r' x x' p q = p ∙ sym q
+pub told_from_one : OneResult 0 told-kinds.ps told-kinds.r told.Post
+told_from_one κs a r r' x x' p q = p ∙ sym q

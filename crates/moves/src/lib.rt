@@ -26,28 +26,32 @@ pub struct Told {
 }
 
 // A drain's result as C sees it.
-pub fn drained_for_c(got: Result<u32, Refusal>) -> Drained
-    ensures { result ≡ drained got }
-{
-    match got {
-        Ok(value) => Drained { answer: 0, value },
-        Err(refusal) => Drained {
-            answer: refusal.number(),
-            value: 0,
-        },
+impl From<Result<u32, Refusal>> for Drained {
+    ghost from_gives = { λ got r. r ≡ drained got };
+
+    fn from(got: Result<u32, Refusal>) -> Drained {
+        match got {
+            Ok(value) => Drained { answer: 0, value },
+            Err(refusal) => Drained {
+                answer: refusal.number(),
+                value: 0,
+            },
+        }
     }
 }
 
 // A question's result as C sees it.
-pub fn told_for_c(got: Result<u32, Refusal>) -> Told
-    ensures { result ≡ told_as got }
-{
-    match got {
-        Ok(value) => Told { answer: 0, value },
-        Err(refusal) => Told {
-            answer: refusal.number(),
-            value: 0,
-        },
+impl From<Result<u32, Refusal>> for Told {
+    ghost from_gives = { λ got r. r ≡ told_as got };
+
+    fn from(got: Result<u32, Refusal>) -> Told {
+        match got {
+            Ok(value) => Told { answer: 0, value },
+            Err(refusal) => Told {
+                answer: refusal.number(),
+                value: 0,
+            },
+        }
     }
 }
 

@@ -1,35 +1,30 @@
-// What is done to a netlist before it is written, by letters. Each is an arm of one match, since a case's text has letters.
+// What is done to a netlist before it is written, by letters.
 use netlist::Netlist;
+
+// Every place from `from` on, as rubbish. cut_run has it too: in run_text it would be public, with a promise of its own, for one line.
+fn rubbish<T: Copy>(cells: &mut [T], from: usize, x: T) {
+    for cell in cells.iter_mut().skip(from) {
+        *cell = x;
+    }
+}
 
 // Every node past the count, as rubbish, of the width that the bench's nodes have.
 fn rubbish_nodes(net: &mut Netlist) {
-    let from = net.nodes.min(1024);
-    net.code[from..].fill(0x77);
-    net.width[from..].fill(8);
-    net.a[from..].fill(0x5555);
-    net.b[from..].fill(0x4444);
-    net.c[from..].fill(0x3333);
-    net.k[from..].fill(0x22222222);
+    rubbish(&mut net.code, net.nodes, 0x77);
+    rubbish(&mut net.width, net.nodes, 8);
+    rubbish(&mut net.a, net.nodes, 0x5555);
+    rubbish(&mut net.b, net.nodes, 0x4444);
+    rubbish(&mut net.c, net.nodes, 0x3333);
+    rubbish(&mut net.k, net.nodes, 0x22222222);
 }
 
-// Every output past the count, as rubbish.
-fn rubbish_outputs(net: &mut Netlist) {
-    let from = net.outputs.min(64);
-    net.output[from..].fill(0x9999);
-}
-
-// Every label byte past the count, as rubbish, though text.
-fn rubbish_labels(net: &mut Netlist) {
-    let from = net.labels.min(4096);
-    net.label[from..].fill(b'a');
-}
-
-// A change: rubbish, a count, or an entry. A capital letter of a count is the largest number.
+// A change: rubbish past a count (label bytes are text), a count, or an entry. A capital letter of a count is the largest number. By a match on the letter, which
+// is what a case's text has; a table of closures would be no plainer.
 fn change(net: &mut Netlist, letter: u8) {
     match letter {
         b'1' => rubbish_nodes(net),
-        b'2' => rubbish_outputs(net),
-        b'3' => rubbish_labels(net),
+        b'2' => rubbish(&mut net.output, net.outputs, 0x9999),
+        b'3' => rubbish(&mut net.label, net.labels, b'a'),
         b'z' => net.nodes = 0,
         b'm' => net.nodes = 1024,
         b'n' => net.nodes = 1025,
@@ -50,7 +45,8 @@ fn change(net: &mut Netlist, letter: u8) {
     }
 }
 
-// All the changes, in the order of their letters. '-' is none.
+// All the changes, in the order of their letters. '-' is none. cut_run has it too: in run_text it would be public and take a closure that changes, of which
+// nothing exact could be promised.
 pub fn all(net: &mut Netlist, letters: &[u8]) {
     for letter in letters {
         change(net, *letter);

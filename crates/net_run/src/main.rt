@@ -13,6 +13,7 @@ use std::io;
 use std::io::Write;
 
 // Writes the netlist into the first `room` bytes of a buffer of A5, and prints what came of it. Gives the image's length.
+// cut_run has it too: in run_text it would be public and take a closure that prints, of which nothing exact could be promised.
 fn write<W: Write>(out: &mut W, net: &Netlist, room: usize, sheet: &[u8]) -> io::Result<usize> {
     let mut buffer = [0xA5u8; 20480];
     let end = room.min(buffer.len());
@@ -25,7 +26,7 @@ fn write<W: Write>(out: &mut W, net: &Netlist, room: usize, sheet: &[u8]) -> io:
 }
 
 // Writes the netlist into a buffer that is long enough; then into one of just the image's length, which is none where it is refused;
-// then into one a byte shorter.
+// then into one a byte shorter. cut_run has it too: in run_text it would be public and take a closure that prints, of which nothing exact could be promised.
 fn write_back<W: Write>(out: &mut W, net: &Netlist, sheet: &[u8]) -> io::Result<()> {
     put_word(out, b"write")?;
     let length = write(out, net, 20480, sheet)?;
@@ -88,7 +89,7 @@ fn run_line<W: Write>(out: &mut W, line: &[u8]) -> io::Result<()> {
 }
 
 // The cases of standard input, each ended by a line end. An error of standard input or output ends the program with it: what was printed before stands, and
-// the cases after it are left out.
+// the cases after it are left out. cycle_run has it too: in run_text it would be public and take a closure that prints, of which nothing exact could be promised.
 fn main(rt: HostRuntime) -> io::Result<()> {
     let mut input = [0u8; 400000];
     let n = run_text::read_full(&mut rt.stdin(), &mut input)?;

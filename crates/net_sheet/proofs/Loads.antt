@@ -1,13 +1,15 @@
--- The netlist that was loaded is the netlist of the sheet: a record that is there, one turn of the loop over the records, and what all three loops leave.
+-- The netlist that was loaded is the netlist of the sheet: a record that is there, one turn of the loop over the records, and what the three loads leave.
 use mathlib.Core.Path.{◌≡◌, refl, ap}
 use mathlib.Core.Bool.{cond}
 use mathlib.Core.List.{List}
 use Prim.Native.Nat.{ℕ, ◌+◌, ◌*◌, ◌/◌, ◌<◌, ◌≤◌, min}
+use native.Mathlib.Omega.{arith}
 use borrow.Author.Tests.{le-leb, lt-leb}
-use lib.ListN.{length, get_or, set, replicate}
+use lib.ListN.{length, get_or, set, replicate, take, drop}
 use Rattle.base.specs.Bytes.{two_at}
 use Rattle.base.specs.Lists.{fill}
 use Rattle.base.proofs.Fill.{fill_step, fill_clipped}
+use Rattle.layout.proofs.Loads.{stretch_loaded}
 use Rattle.codes.specs.declared.Record.{Record}
 use Rattle.netlist.specs.declared.Netlist.{Netlist}
 use Rattle.netlist.specs.Netlists.{no_net}
@@ -60,17 +62,18 @@ clipped f n m xs long = fill_clipped f n m (min n m) xs (fill f (min n m) xs) re
 
 module _ (s : List ℕ) (F M L : ℕ) where
   pub net_from_is : (z l : Netlist) (nodes outputs bytes : ℕ) (output label : List ℕ)
+      → F + (M + L) ≤ length s
       → z ≡ no_net
       → l ≡ loaded s nodes (record z { nodes = F / 12; outputs = M / 2; labels = L })
       → nodes ≡ min (F / 12) 1024
       → output ≡ fill (λ j. two_at s (F + j * 2)) outputs l.output
       → outputs ≡ min (M / 2) 64
-      → label ≡ fill (λ j. get_or s (F + M + j) 0) bytes l.label
-      → bytes ≡ min L 4096
+      → label ≡ fill (λ j. get_or (take bytes (drop (F + M) s)) j 0) (length (take bytes (drop (F + M) s))) l.label
+      → bytes ≡ L
       → ◌≡◌ {A = Netlist} (record l { output = output; label = label }) (net_from s F M L)
   unfolding net_from no_net
-  net_from_is z l nodes outputs bytes output label e1 e2 e3 e4 e5 e6 e7 =
-      rw (e4, e6, e2, e1, e3, e5, e7)
+  net_from_is z l nodes outputs bytes output label h e1 e2 e3 e4 e5 e6 e7 =
+      rw (e4, e6, e7, stretch_loaded s (F + M) L l.label (omega arith), e2, e1, e3, e5)
       (λ j.
       record {
         nodes = F / 12;
@@ -83,5 +86,5 @@ module _ (s : List ℕ) (F M L : ℕ) where
         outputs = M / 2;
         output = clipped (λ i. two_at s (F + i * 2)) (M / 2) 64 (replicate 64 0) refl j;
         labels = L;
-        label = clipped (λ i. get_or s (F + M + i) 0) L 4096 (replicate 4096 0) refl j;
+        label = fill (λ i. get_or s (F + M + i) 0) L (replicate 4096 0);
       })

@@ -2,7 +2,7 @@
 use Rattle.std.specs.Prelude.{Bool, cond, ◌&&◌, List, ◌∷◌, ℕ, ◌+◌, ◌*◌, ◌/◌, ◌%◌, eqb, leb, length, get_or, replicate}
 use Rattle.base.specs.Bytes.{two_at, four_at}
 use Rattle.base.specs.Lists.{fill}
-use Rattle.std.specs.Prelude.{Option, Some, None}
+use Rattle.std.specs.Prelude.{Option, Some, None, Result, Ok, Err}
 use Rattle.base.specs.declared.Verdict.{Verdict}
 use Rattle.base.specs.Checks.{whole, verdict}
 use Rattle.codes.specs.declared.Record.{Record}
@@ -80,3 +80,8 @@ net_read s =
       place = (sheet_verdict s).place;
       net = cond (eqb (sheet_verdict s).answer 0) (net_of s) no_net;
     }
+
+-- the same of a reader's result: the netlist, or what refuses
+abbrev pub read_for_c : Result Netlist Verdict → NetRead
+read_for_c (Ok n) = record { answer = 0; place = 0; net = n }
+read_for_c (Err v) = record { answer = v.answer; place = v.place; net = no_net }

@@ -1,10 +1,10 @@
 // A sheet's sections, loaded into a netlist.
-ghost use Rattle.std.specs.Prelude.{◌≡◌, ◌+◌, ◌*◌, ◌≤◌, length, get_or};
+ghost use Rattle.std.specs.Prelude.{◌≡◌, ◌+◌, ◌*◌, ◌≤◌, length};
 ghost use Rattle.base.specs.Bytes.{two_at};
 ghost use Rattle.base.specs.Lists.{fill};
 ghost use Rattle.net_sheet.specs.Reading.{record_at, record_there, net_from};
 
-// Record number i of a sheet; zeros where the sheet has not its 12 bytes.
+// Record number i of a sheet; zeros where the sheet has not its 12 bytes, as `stands_at` of the walker and `record_of` say, so that it asks nothing of i.
 pub fn record_at(sheet: &[u8], i: usize) -> codes::Record
     ensures { result ≡ record_there sheet.now i }
 {
@@ -50,14 +50,6 @@ fn load_outputs(output: &mut [u16; 64], sheet: &[u8], from: usize, n: usize)
     }
 }
 
-// The first n label bytes, which stand from byte `from` on.
-fn load_labels(label: &mut [u8; 4096], sheet: &[u8], from: usize, n: usize)
-    requires { (n ≤ 4096) × (from + n ≤ length sheet.now) }
-    ensures { label.new ≡ fill (λ j. get_or sheet.now (from + j) 0) n label.old }
-{
-    label[..n].copy_from_slice(&sheet[from..from + n]);
-}
-
 // The netlist of a sheet whose sections are these; of a count past an array's length, as much as the array holds.
 pub fn net_from(sheet: &[u8], s: layout::Sections) -> netlist::Netlist
     requires { s.front + (s.middle + s.labels) ≤ length sheet.now }
@@ -69,9 +61,9 @@ pub fn net_from(sheet: &[u8], s: layout::Sections) -> netlist::Netlist
     net.labels = s.labels;
     let nodes = net.nodes.min(1024);
     let outputs = net.outputs.min(64);
-    let labels = net.labels.min(4096);
+    let labels = s.front + s.middle;
     load_nodes(&mut net, sheet, nodes);
     load_outputs(&mut net.output, sheet, s.front, outputs);
-    load_labels(&mut net.label, sheet, s.front + s.middle, labels);
+    layout::load_bytes(&mut net.label, &sheet[labels..labels + s.labels]);
     net
 }

@@ -1,6 +1,7 @@
 // The writer: any netlist in; answer, place and length out, and the sheet in a lent image.
 ghost use Rattle.std.specs.Prelude.{◌≡◌, ◌+◌, ◌*◌, ◌≤◌, length};
 ghost use Rattle.base.specs.Lists.{patch};
+ghost use Rattle.layout.specs.Write.{wrote_for_c};
 ghost use Rattle.net_sheet.specs.Image.{net_image};
 ghost use Rattle.net_sheet.specs.Writing.{net_wrote, net_written};
 
@@ -28,29 +29,20 @@ fn sheet_size(net: &netlist::Netlist) -> usize
     net.nodes * 12 + net.outputs * 2 + labels.len() + 16
 }
 
+// The checks 3 to 6, then 16, and the whole sheet where all are good: its length.
+fn put_checked(net: &netlist::Netlist, image: &mut [u8]) -> Result<usize, base::Verdict>
+    ensures { (wrote_for_c result ≡ net_wrote net.now (length image.old)) × (image.new ≡ net_written net.now image.old) }
+{
+    netlist::check_net(net)?;
+    let size = sheet_size(net);
+    base::passed(16, base::whole(size <= image.len()))?;
+    put_net(image, net);
+    Ok(size)
+}
+
 // Writes a net sheet: the checks 3 to 6, then 16.
 pub fn write_net(net: &netlist::Netlist, image: &mut [u8]) -> layout::Wrote
     ensures { (result ≡ net_wrote net.now (length image.old)) × (image.new ≡ net_written net.now image.old) }
 {
-    if let Err(v) = netlist::check_net(net) {
-        return layout::Wrote {
-            answer: v.answer,
-            place: v.place,
-            length: 0,
-        };
-    }
-    let size = sheet_size(net);
-    if image.len() < size {
-        return layout::Wrote {
-            answer: 16,
-            place: 0,
-            length: 0,
-        };
-    }
-    put_net(image, net);
-    layout::Wrote {
-        answer: 0,
-        place: 0,
-        length: size,
-    }
+    layout::wrote_for_c(put_checked(net, image))
 }

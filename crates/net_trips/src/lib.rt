@@ -1,4 +1,5 @@
 // A net sheet there and back, as one promise: what was read and written again is the same bytes.
+// cut_trips is its twin for cut sheets: a trait of readers and writers would be longer than both.
 #![tactic(auto)]
 
 ghost use Rattle.std.specs.Prelude.{◌≡◌, length};
@@ -13,11 +14,10 @@ pub fn copy_net(sheet: &[u8], image: &mut [u8]) -> layout::Wrote
     if got.answer == 0 {
         net_sheet::write_net(&got.net, image)
     } else {
-        layout::Wrote {
+        layout::wrote_for_c(Err(base::Verdict {
             answer: got.answer,
             place: got.place,
-            length: 0,
-        }
+        }))
     }
 }
 
@@ -25,16 +25,15 @@ pub fn copy_net(sheet: &[u8], image: &mut [u8]) -> layout::Wrote
 pub fn reread_net(net: &netlist::Netlist, image: &mut [u8]) -> net_sheet::NetRead
     ensures { (result ≡ reread net.now (length image.old)) × (image.new ≡ net_written net.now image.old) }
 {
-    // That a byte is one: what is read of the netlist here is known to be of its type behind the reference too.
+    // A byte is below 256: said here, the check knows it of what the reference lends.
     prove!(net.code[0] <= 255);
     let wrote = net_sheet::write_net(net, image);
     if wrote.answer == 0 {
         net_sheet::read_net(&image[..wrote.length])
     } else {
-        net_sheet::NetRead {
+        net_sheet::read_for_c(Err(base::Verdict {
             answer: wrote.answer,
             place: wrote.place,
-            net: netlist::no_net(),
-        }
+        }))
     }
 }

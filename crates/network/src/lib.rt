@@ -30,7 +30,7 @@ pub extern "C" fn cwazi_feed(plan: &Plan, network: &mut Network, input: u32, val
 pub extern "C" fn cwazi_drain(plan: &Plan, network: &mut Network, output: u32) -> moves::Drained
     ensures { DrainCall plan.now network.old output result network.new }
 {
-    moves::drained_for_c(moves::drain(plan, network, output))
+    moves::Drained::from(moves::drain(plan, network, output))
 }
 
 // How many tokens a queue holds: 12 where there is no such queue.
@@ -39,7 +39,7 @@ pub extern "C" fn cwazi_drain(plan: &Plan, network: &mut Network, output: u32) -
 pub extern "C" fn cwazi_tokens(plan: &Plan, network: &Network, queue: u32) -> moves::Told
     ensures { TokensCall plan.now network.now queue result }
 {
-    moves::told_for_c(moves::tokens(plan, network, queue))
+    moves::Told::from(moves::tokens(plan, network, queue))
 }
 
 // How many cycles a part has finished: 12 where there is no such part.
@@ -48,5 +48,5 @@ pub extern "C" fn cwazi_tokens(plan: &Plan, network: &Network, queue: u32) -> mo
 pub extern "C" fn cwazi_finished(plan: &Plan, network: &Network, part: u32) -> moves::Told
     ensures { FinishedCall plan.now network.now part result }
 {
-    moves::told_for_c(moves::finished(plan, network, part))
+    moves::Told::from(moves::finished(plan, network, part))
 }

@@ -65,7 +65,7 @@ fn order<W: Write>(
     put_one(out, crate::cells::first_sum(&lent, room as usize))
 }
 
-// Plays a command, and prints what came of it.
+// Plays a command, and prints what came of it: by a match on the letter, which is what a case's text has; a table of closures would be no plainer.
 pub fn play<W: Write>(
     out: &mut W,
     plan: &Plan,

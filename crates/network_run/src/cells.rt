@@ -1,7 +1,8 @@
 // Sums over every place of a network's arrays.
 use spots::Network;
 
-// The sum with the numbers of one array more. cut_run has it too: in run_text it would be public, and could promise nothing exact, since `Into` names no value.
+// The sum with the numbers of one array more. cut_run has it too: in run_text it would be public, and `Into` promises a relation that is not known to give one number,
+// so that two results could not be proved equal.
 fn sum_all<T: Copy + Into<u32>>(start: u32, cells: &[T]) -> u32 {
     cells
         .iter()

@@ -48,7 +48,7 @@ impl Lists {
         }
     }
 
-    // A number more in one of them.
+    // A number more in one of them: the case's text names the list by its number.
     pub fn push(&mut self, which: u32, x: u32) {
         match which {
             0 => self.kinds.push(x),

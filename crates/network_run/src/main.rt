@@ -10,7 +10,7 @@ mod lists;
 mod play;
 mod words;
 
-use run_text::{find, number32, put_number, put_word, read_line, unhex};
+use run_text::{number32, put_number, put_word, read_line, unhex};
 use std::io;
 use std::io::{Read, Write};
 
@@ -49,18 +49,18 @@ fn run_hex<W: Write>(
 
 // The case of a line: what it lacks is empty.
 fn run_line<W: Write>(out: &mut W, line: &[u8]) -> io::Result<()> {
-    let mut words = line.splitn(4, |b| *b == b' ');
+    let mut words = line.splitn(5, |b| *b == b' ');
     out.write_all(words.next().unwrap_or(b""))?;
     out.write_all(b":")?;
     let limit = number32(words.next().unwrap_or(b""));
     let net_hex = words.next().unwrap_or(b"");
-    let rest = words.next().unwrap_or(b"");
-    let end = find(rest, 0, b' ');
-    run_hex(out, limit, net_hex, &rest[..end], &rest[end..])?;
+    let cut_hex = words.next().unwrap_or(b"");
+    let commands = words.next().unwrap_or(b"");
+    run_hex(out, limit, net_hex, cut_hex, commands)?;
     out.write_all(b"\n")
 }
 
-// The cases of the input.
+// The cases of the input. cut_run has it too: in run_text it would be public and take a closure that prints, of which nothing exact could be promised.
 fn run_lines<R: Read, W: Write>(input: &mut R, out: &mut W, line: &mut [u8]) -> io::Result<()> {
     for _ in 0..10000 {
         let end = read_line(input, line)?;

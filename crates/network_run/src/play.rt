@@ -1,6 +1,6 @@
 // The commands of a case, played one after the other on an opened network.
 use crate::lists::Lists;
-use crate::words::{Command, command_after};
+use crate::words::{Command, command_of};
 use crate::{calls, cells};
 use plans::Plan;
 use run_text::{put_number, put_word};
@@ -37,7 +37,8 @@ fn command<W: Write>(
     Ok(())
 }
 
-// Plays the commands of a text, up to one that is unknown. A space stands before each word. The place goes from command to command by their lengths.
+// Plays the commands of a text, up to one that is unknown. Each is three words, as far as they are there, and its letter is a byte: there are no more commands
+// than bytes.
 fn commands<W: Write>(
     out: &mut W,
     plan: &Plan,
@@ -45,14 +46,15 @@ fn commands<W: Write>(
     text: &[u8],
 ) -> io::Result<()> {
     let mut lists = Lists::empty();
-    let mut i = 0;
-    while i < text.len() {
-        let c = command_after(text, i);
-        if !known(c.letter) {
-            break;
+    let mut words = text.split(|b| *b == b' ');
+    for _ in 0..text.len() {
+        let letter = words.next().unwrap_or(b"");
+        let x = words.next().unwrap_or(b"");
+        let y = words.next().unwrap_or(b"");
+        match command_of(letter, x, y) {
+            Some(c) if known(c.letter) => command(out, plan, network, &mut lists, c)?,
+            _ => break,
         }
-        command(out, plan, network, &mut lists, c)?;
-        i = c.end;
     }
     Ok(())
 }

@@ -7,7 +7,7 @@ use native.Mathlib.Numerals.{add-one}
 use native.Mathlib.Omega.{arith}
 use borrow.Author.Tests.{lt-ltb, le-ltb, eqb-true, ltb-false, not-true, ne_eqb}
 use lib.Dec.{eqb, ltb}
-use lib.ListN.{length, get_or, set, length-set}
+use lib.ListN.{length, get_or}
 use Rattle.std.specs.List.{filter}
 use Rattle.base.specs.Checks.{verdict}
 use Rattle.base.proofs.Tests.{and_left, and_right}
@@ -16,7 +16,7 @@ use Rattle.nets.specs.Orders.{Entry, entry_at, drains_asked}
 use Rattle.plans.specs.declared.Plan.{Plan}
 use Rattle.lanes.specs.declared.Network.{Network}
 use Rattle.orders.specs.declared.Played.{Played}
-use Rattle.orders.specs.Orders.{ActOn, act_on, PlayedOn, playing, done_as, tried_on, grown, Tried, order_on, order_checked, order_answer, refused_order, OrderPromise}
+use Rattle.orders.specs.Orders.{ActOn, act_on, playing, done_as, tried_on, grown, Tried, order_on, order_checked, order_answer, refused_order, OrderPromise}
 
 -- ---- the drains asked for
 

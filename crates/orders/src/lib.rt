@@ -9,7 +9,8 @@ use plans::Plan;
 use refusals::Refusal;
 use spots::Network;
 
-// What an order gives: the counts of feeds, drains and firings done. C's callers read it, so that its answer is a number of the outline's table and no `Result`.
+// What an order gives: the counts of feeds, drains and firings done. C's callers read it, and README names it for proved programs too, so that its answer is a number of
+// the outline's table and no `Result`.
 #[repr(C)]
 #[derive(Clone, Copy)]
 pub struct Played {
@@ -26,8 +27,8 @@ fn with_no_value(called: Result<(), Refusal>) -> Result<u32, Refusal>
     called.map(|()| 0)
 }
 
-// Tries one entry: a feed, a drain or a fire by its kind; another kind is refused. Its value is that of a drain that is done, else 0. Kinds are numbers: C callers may
-// write any number into an order's lists.
+// Tries one entry: a feed, a drain or a fire by its kind; another kind is refused. Its value is that of a drain that is done, else 0. An entry is three
+// numbers, as C's lists hold them, and its kind is one of them: C callers may write any number there.
 pub fn act(
     plan: &Plan,
     network: &mut Network,
@@ -46,7 +47,7 @@ pub fn act(
 }
 
 impl Played {
-    // Tries one entry, and counts it where it is done; the largest number stays. A drained value goes to `drained` behind those before it, where it has such a
+    // Tries one entry, three numbers as for `act`, and counts it where it is done; the largest number stays. A drained value goes to `drained` behind those before it, where it has such a
     // place.
     pub fn play(
         &mut self,
@@ -116,6 +117,7 @@ pub fn order(
     if played.answer != 0 {
         return played;
     }
+    // By index: the edit `drained_values_stored_by_entry_number` speaks of the entry's number.
     for t in 0..kinds.len() {
         played.play(plan, network, kinds[t], indexes[t], values[t], drained);
     }

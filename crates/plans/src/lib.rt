@@ -6,7 +6,8 @@ ghost use Rattle.codes.specs.Rows.{is_in};
 ghost use Rattle.plans.specs.Plans.{token_at, read_at, rules_in, plan_of};
 
 // How many there are of each; the nodes' fields with where each operand is read (a node, 1,024 and its queue, or 1,536 for none); the queues' nodes, ends and
-// depths. Arrays with counts beside them, since C sees them and nothing is allocated.
+// depths. Arrays with counts beside them, since C sees them and nothing is allocated. Lent beside a network and not in it, since C lends them so and one plan serves
+// many networks.
 #[repr(C)]
 #[derive(Clone, Copy)]
 pub struct Plan {
@@ -39,7 +40,7 @@ fn token_at(q: u16) -> u16
     1024 + q % 512
 }
 
-// Where an operand is read.
+// Where an operand is read. 512 is no queue and 1,536 no place, as the arrays that C sees hold them, and so they are no `Option` here.
 fn read_at(used: bool, via: u16, x: u16) -> u16
     ensures { result ≡ read_at used via x }
 {
@@ -50,7 +51,7 @@ fn read_at(used: bool, via: u16, x: u16) -> u16
     }
 }
 
-// Where the first field is read: an IN reads its own queue.
+// Where the first field is read, by the same numbers: an IN reads its own queue.
 fn first_at(code: u8, used: bool, via: u16, x: u16, input: u16) -> u16
     ensures { result ≡ cond (is_in code) (token_at input) (read_at used via x) }
 {

@@ -12,10 +12,4 @@ pub put-asked-one : OneOutcome {A = Found} 3 put-asked-kinds.ps put-asked-kinds.
 put-asked-one κs a r r' x x' p q = (p.0 ∙ sym q.0, λ i. record { vals = (p.1 ∙ sym q.1) i; mets = (p.2 ∙ sym q.2) i })
 
 pub put-rules-one : OneOutcome {A = Network × Found} 3 put-rules-kinds.ps put-rules-kinds.r put-rules.Post (λ κs x. (x.1.0.now, x.1.1.1.1.1.0.now))
-put-rules-one κs a r r' x x' p q = (
-  p.0 ∙ sym q.0,
-  λ i. (
-    record { cells = (p.1 ∙ sym q.1) i; used = (p.2 ∙ sym q.2) i; flag = (p.3 ∙ sym q.3) i; held = (p.6 ∙ sym q.6) i; count = (p.7 ∙ sym q.7) i },
-    record { vals = (p.4 ∙ sym q.4) i; mets = (p.5 ∙ sym q.5) i },
-  ),
-)
+put-rules-one κs a r r' x x' p q = (p.0 ∙ sym q.0, λ i. ((p.1 ∙ sym q.1) i, record { vals = (p.2 ∙ sym q.2) i; mets = (p.3 ∙ sym q.3) i }))

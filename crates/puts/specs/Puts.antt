@@ -5,7 +5,7 @@ use Rattle.lanes.specs.Lanes.{push_cells, push_used}
 use Rattle.plans.specs.declared.Plan.{Plan as Opened}
 use Rattle.lanes.specs.declared.Network.{Network}
 use Rattle.evals.specs.declared.Found.{Found}
-use Rattle.evals.specs.Passes.{Fields, mk, vals_after, mets_after}
+use Rattle.evals.specs.Passes.{Fields, fields_of, vals_after, mets_after}
 
 -- What rules ask and none of them changes: the nodes' fields, what registers hold, each queue's node, putting part and depth, each part's finished cycles,
 -- the limit, where the channels end and how many nodes there are.
@@ -108,7 +108,11 @@ channels_end P = min P.inputs 512 + min P.channels 512
 
 abbrev pub rules_of : Opened → Network → Plan
 rules_of P N =
-    mk_plan (mk P.code P.width P.join P.k P.ra P.rb P.rc) N.held P.node P.from P.depth N.count P.limit (channels_end P) P.nodes
+    mk_plan (fields_of P) N.held P.node P.from P.depth N.count P.limit (channels_end P) P.nodes
 
 abbrev pub pass_of : Network → Found → Pass
 pass_of N F = mk_pass 0 0 N.cells N.used N.flag F.vals F.mets
+
+-- what a pass leaves of a network: how many rules fired, the queues, the flags, and what was found
+abbrev pub Left : Network → Pass → ℕ → Network → Found → Type 0
+Left L T fired M F = (fired ≡ T.fired) × (M ≡ record L { cells = T.cells; used = T.used; flag = T.flag }) × (F.vals ≡ T.vals) × (F.mets ≡ T.mets)

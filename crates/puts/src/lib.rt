@@ -2,7 +2,7 @@
 #![tactic(auto)]
 
 ghost use Rattle.std.specs.Prelude.{◌≡◌, [], cond, ℕ, ◌+◌, ◌<◌, ltb, get_or};
-ghost use Rattle.puts.specs.Puts.{mk_pass, channels_end, rules_of, pass_of, put_test, put_done, Asked, puts_done};
+ghost use Rattle.puts.specs.Puts.{mk_pass, channels_end, rules_of, pass_of, put_test, put_done, Asked, puts_done, Left};
 
 use evals::Found;
 use lanes::Network;
@@ -67,7 +67,7 @@ pub fn put_rules(
     last: usize,
     found: &mut Found,
 ) -> usize
-    ensures { (result ≡ (puts_done (rules_of plan.now network.old) lo hi last (pass_of network.old found.old)).fired) × (network.new.cells ≡ (puts_done (rules_of plan.now network.old) lo hi last (pass_of network.old found.old)).cells) × (network.new.used ≡ (puts_done (rules_of plan.now network.old) lo hi last (pass_of network.old found.old)).used) × (network.new.flag ≡ (puts_done (rules_of plan.now network.old) lo hi last (pass_of network.old found.old)).flag) × (found.new.vals ≡ (puts_done (rules_of plan.now network.old) lo hi last (pass_of network.old found.old)).vals) × (found.new.mets ≡ (puts_done (rules_of plan.now network.old) lo hi last (pass_of network.old found.old)).mets) × (network.new.held ≡ network.old.held) × (network.new.count ≡ network.old.count) }
+    ensures { Left network.old (puts_done (rules_of plan.now network.old) lo hi last (pass_of network.old found.old)) result network.new found.new }
 {
     let mut seen = 0;
     let mut fired = 0;

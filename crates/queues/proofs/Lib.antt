@@ -1,6 +1,7 @@
 pub mod One
 pub mod Listed
 pub mod Words
+pub mod Uses
 pub mod Marks
 pub mod Crossings
 pub mod Puts

@@ -1,5 +1,5 @@
 -- Lists in order, and their entries stored one behind the other: a turn of a loop that finds one more entry or none. By induction on the entries.
-use Rattle.std.proofs.Common.{◌≡◌, ℕ, zero, suc, ◌+◌, ◌*◌, ◌<◌, ◌≤◌, max, Bool, true, false, cond, List, [], ◌∷◌, ◌++◌, length, get_or, set, sym, refl, ap, ◌∙◌, ⊎_elim, append-nil, le_of_suc-le-suc, not-suc-le-zero, add-zero, add-suc, eq-or-lt_of_le, add-one, arith, length-append, length-set, get_or-set_other, get_or-set_same}
+use Rattle.std.proofs.Common.{◌≡◌, ℕ, zero, suc, ◌+◌, ◌*◌, ◌<◌, ◌≤◌, Bool, true, false, cond, List, [], ◌∷◌, ◌++◌, length, get_or, set, sym, refl, ap, ◌∙◌, ⊎_elim, append-nil, le_of_suc-le-suc, not-suc-le-zero, add-zero, add-suc, eq-or-lt_of_le, add-one, arith, length-append, length-set, get_or-set_other, get_or-set_same}
 use Rattle.queues.specs.Lists.{listed, laid, one_if, some, largest}
 
 module _ {A : Type 0} where
@@ -67,10 +67,6 @@ pub ones-all : {A : Type 0} (x : ℕ → A) (n : ℕ) → length (listed n (λ j
 unfolding listed
 ones-all x zero = refl
 ones-all x (suc n) = length-append (listed n (λ j. one_if true (x j))) (x n ∷ []) ∙ rw (ones-all x n) (omega arith)
-
-pub largest_step : (f : ℕ → ℕ) (i m w v : ℕ) → m ≡ largest i f → w ≡ f i → v ≡ max m w → v ≡ largest (i + 1) f
-unfolding largest
-largest_step f i m w v e h g = rw (add-one i, g, h, e) (omega arith)
 
 -- each is at most the largest
 pub largest_le : (n : ℕ) (f : ℕ → ℕ) (i : ℕ) → i < n → f i ≤ largest n f

@@ -1,23 +1,26 @@
 -- The passes together find the queues of the definition: three stretches right behind each other, and for each operand that crosses the place of its channel.
-use Rattle.std.proofs.Common.{◌≡◌, ℕ, ◌+◌, ◌-◌, ◌*◌, ◌^◌, ◌<◌, ◌≤◌, true, false, not, ◌&&◌, eqb, leb, List, ◌++◌, length, get_or, set, replicate, sym, refl, ap, ◌∙◌, ap₂, mul-le-mul_left, arith, length-append, ne_eqb, leb-true}
+use Rattle.std.proofs.Common.{◌≡◌, ℕ, ◌+◌, ◌-◌, ◌*◌, ◌^◌, ◌<◌, ◌≤◌, Bool, true, false, cond, not, ◌&&◌, eqb, leb, ltb, List, ◌++◌, length, get_or, set, replicate, sym, refl, ap, ◌∙◌, ap₂, mul-le-mul_left, arith, length-append, ne_eqb, leb-true}
 use mathlib.Core.Bool.{and-false}
+use Rattle.std.specs.Prelude.{Option, None, Some}
+use Rattle.std.specs.Option.{unwrap_or}
 use lib.ListN.{length-replicate}
 use Rattle.base.specs.Lists.{fill}
 use Rattle.base.specs.Checks.{every}
 use Rattle.base.proofs.Fill.{fill_at, fill_step}
 use Rattle.base.proofs.Tests.{every_at}
-use Rattle.codes.specs.Rows.{is_in}
+use Rattle.codes.specs.Rows.{is_in, count_of}
 use Rattle.codes.specs.Records.{operands_in}
 use Rattle.netlist.specs.declared.Netlist.{Netlist}
 use Rattle.netlist.specs.Netlists.{record_of, output_of}
 use Rattle.queues.specs.Lists.{laid, one_if, member}
 use Rattle.queues.specs.Queues.{Queue, input_at, channel_at, output_at, part_of, parts_of, crosses, inputs_of, channels_all, channels_to, channels_of, outputs_of, queues_of, channel_place}
-use Rattle.queues.specs.Found.{no_queues, via_of, found}
+use Rattle.queues.specs.Found.{no_queue, no_queues, via_of, found}
 use Rattle.queues.specs.Pass.{Fit, put_all, before, Numbered}
 use Rattle.queues.specs.declared.Queues.{Queues}
-use Rattle.queues.specs.declared.channels.Channels.{Channels}
+use Rattle.queues.specs.declared.channels.Uses.{Uses}
 use Rattle.queues.proofs.Listed.{laid_append, listed-skip, listed-few, ones-few, ones-all, some-none, largest_le, largest-few}
 use Rattle.queues.proofs.Puts.{inputs_put}
+use Rattle.queues.proofs.Uses.{unused, mark_of, first_of}
 
 -- parts are few, and each node's part is one
 pub parts-few : (n : Netlist) (part : List ℕ) → every (λ i. leb (get_or part i 0) 31) n.nodes ≡ true → parts_of n part ≤ 32
@@ -64,10 +67,10 @@ module _ (n : Netlist) (part : List ℕ) (f : Fit n part) where
       omega (arith, a, b, d)
 
   -- what is read at an operand that crosses is the place of its channel
-  pub via_is : (c : Channels) → Numbered n part c → (x p : ℕ) → x < n.nodes → p < 32 → get_or c.first x 0 + before (get_or c.marks x 0) (part_of part x) p ≡ channel_place n part x p
+  pub via_is : (c : List Uses) → Numbered n part c → (x p : ℕ) → x < n.nodes → p < 32 → (get_or c x unused).first + before (get_or c x unused).mark (part_of part x) p ≡ channel_place n part x p
   via_is c k x p l h =
       let g = fill_at (λ i. length (inputs_of n part) + length (channels_to n part i)) n.nodes x (replicate 1024 0) l (rw (length-replicate {A = ℕ} 1024 0) f.nodes) in
-      ap₂ (λ y z. y + z) (ap (λ y. get_or y x 0) k.first ∙ g) (k.told x p l h)
+      rw (← first_of c x, ← mark_of c x) (ap₂ (λ y z. y + z) (ap (λ y. get_or y x 0) k.first ∙ g) (k.told x p l h))
 
   pub place-low : (x p : ℕ) → x < n.nodes → p < 32 → channel_place n part x p < 2 ^ 16
   place-low x p l h = place_low n part x p f.nodes few l h
@@ -103,6 +106,19 @@ whole_is n part m r s t u hm hr hs ht hu =
     let c : length (inputs_of n part) + length (channels_all n part) - length (inputs_of n part) ≡ length (channels_all n part) = omega arith in
     let all : length (inputs_of n part) + length (channels_all n part) + length (outputs_of n part) ≡ length (inputs_of n part ++ channels_all n part ++ outputs_of n part) = sym (length-append (inputs_of n part ++ channels_all n part) (outputs_of n part) ∙ ap (λ x. x + length (outputs_of n part)) (length-append (inputs_of n part) (channels_all n part))) in
     rw (hu, ht, hs, hr, hm, three (λ q. q.node) n part (replicate 512 0), three (λ q. q.from) n part (replicate 512 0), three (λ q. q.into) n part (replicate 512 0), i, c, all, outs)
+
+unwrapped : (b : Bool) (x r : ℕ) (o : Option ℕ) → o ≡ cond b (Some x) None → r ≡ unwrap_or o no_queue → r ≡ cond b x no_queue
+unwrapped true x r o e h = rw (h, e)
+unwrapped false x r o e h = rw (h, e)
+
+-- an operand's queue as it is stored
+pub stored : (n : Netlist) (part : List ℕ) (i s x m r : ℕ) (o : Option ℕ)
+    → m ≡ count_of (record_of n i).code
+    → o ≡ cond (ltb s m && ltb x n.nodes && not (eqb (part_of part x) (part_of part i))) (Some (channel_place n part x (part_of part i))) None
+    → r ≡ unwrap_or o no_queue
+    → r ≡ via_of n part s i x
+stored n part i s x m r o h e g =
+    unwrapped (ltb s (count_of (record_of n i).code) && ltb x n.nodes && not (eqb (part_of part x) (part_of part i))) (channel_place n part x (part_of part i)) r o (rw h at e) g
 
 -- the loop over the nodes that finds each operand's queue
 abbrev pub mapped : Netlist → List ℕ → ℕ → Queues → Queues

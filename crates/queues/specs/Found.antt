@@ -28,24 +28,6 @@ via_of n part s i x =
     (channel_place n part x (part_of part i))
     no_queue
 
--- queues by their fields
-abbrev pub queues_with : ℕ → ℕ → ℕ → ℕ → ℕ → List ℕ → List ℕ → List ℕ → List ℕ → List ℕ → List ℕ → List ℕ → Queues
-queues_with parts count inputs channels outputs node from into input a b c =
-    record {
-      parts = parts;
-      count = count;
-      inputs = inputs;
-      channels = channels;
-      outputs = outputs;
-      node = node;
-      from = from;
-      into = into;
-      input = input;
-      a = a;
-      b = b;
-      c = c;
-    }
-
 -- zeros alone
 unfoldable pub no_queues : Queues
 no_queues =

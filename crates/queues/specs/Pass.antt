@@ -1,5 +1,5 @@
 -- What the private functions of the finder leave, pass by pass. No public promise speaks of it: those are in Found.
-use Rattle.std.specs.Prelude.{◌≡◌, ℕ, zero, suc, ◌+◌, ◌-◌, ◌/◌, ◌%◌, ◌^◌, ◌<◌, ◌≤◌, Bool, true, cond, List, length, replicate, ◌==◌, bit_and, bit_or, count_ones, leb, nat_lt, slice_index, slice_set}
+use Rattle.std.specs.Prelude.{◌≡◌, ℕ, zero, suc, ◌+◌, ◌-◌, ◌/◌, ◌%◌, ◌^◌, ◌<◌, ◌≤◌, Bool, true, cond, List, length, map, replicate, ◌==◌, bit_and, bit_or, count_ones, leb, nat_lt, slice_index, slice_set}
 use Rattle.base.specs.Checks.{every}
 use Rattle.base.specs.Lists.{fill}
 use Rattle.codes.specs.Rows.{count_of}
@@ -8,7 +8,7 @@ use Rattle.netlist.specs.Netlists.{record_of}
 use Rattle.queues.specs.Lists.{listed, laid, one_if}
 use Rattle.queues.specs.Queues.{Queue, channel, part_of, inputs_of, channels_of, channels_to}
 use Rattle.queues.specs.declared.Queues.{Queues}
-use Rattle.queues.specs.declared.channels.Channels.{Channels}
+use Rattle.queues.specs.declared.channels.Uses.{Uses}
 
 -- the drawing is within its numbers, and each part number is one
 pub record Fit (n : Netlist) (part : List ℕ) : Type 0 where
@@ -34,6 +34,13 @@ put node from into s =
       from = slice_set s.from s.count from;
       into = slice_set s.into s.count into;
     }
+
+-- the words of some nodes' uses, and the numbers of their first channels
+abbrev pub marks_of : List Uses → List ℕ
+marks_of = map (λ u. u.mark)
+
+abbrev pub firsts_of : List Uses → List ℕ
+firsts_of = map (λ u. u.first)
 
 -- bit p of a word
 abbrev pub bit_of : ℕ → ℕ → Bool
@@ -65,6 +72,6 @@ abbrev pub before : ℕ → ℕ → ℕ → ℕ
 before word own p = count_ones (others word own % 2 ^ p)
 
 -- the marks tell how many of a node's channels stand before each, and its first channel has its number
-pub record Numbered (n : Netlist) (part : List ℕ) (c : Channels) : Type 0 where
-  pub told : (i p : ℕ) → i < n.nodes → p < 32 → before (slice_index c.marks i) (part_of part i) p ≡ length (channels_of n part i p)
-  pub first : c.first ≡ fill (λ i. length (inputs_of n part) + length (channels_to n part i)) n.nodes (replicate 1024 0)
+pub record Numbered (n : Netlist) (part : List ℕ) (u : List Uses) : Type 0 where
+  pub told : (i p : ℕ) → i < n.nodes → p < 32 → before (slice_index (marks_of u) i) (part_of part i) p ≡ length (channels_of n part i p)
+  pub first : firsts_of u ≡ fill (λ i. length (inputs_of n part) + length (channels_to n part i)) n.nodes (replicate 1024 0)

@@ -1,14 +1,13 @@
 // The channels: the parts that use a node marked in its word, a bit for each, then numbered by node and part.
-ghost use Rattle.std.specs.Prelude.{◌≡◌, ◌<◌, ◌≤◌, ◌&&◌, not, ◌==◌, cond, length, nat_lt};
+ghost use Rattle.std.specs.Prelude.{◌≡◌, ◌<◌, ◌≤◌, ◌&&◌, not, ◌==◌, cond, length, nat_lt, None, Some};
 ghost use Rattle.queues.specs.Queues.{part_of, inputs_of, channels_all, channel_place};
-ghost use Rattle.queues.specs.Found.{no_queue};
-ghost use Rattle.queues.specs.Pass.{Fit, put_all, mark_if, marked, others, channels_by, Numbered};
+ghost use Rattle.queues.specs.Pass.{marks_of, firsts_of, put_all, mark_if, marked, others, channels_by, Numbered};
 
-// For each node the parts that use it, a bit for each, and the number of its first channel.
-#[derive(Drop)]
-pub struct Channels {
-    pub marks: [u32; 1024],
-    pub first: [u16; 1024],
+// The parts that use a node, a bit for each, and the number of its first channel.
+#[derive(Clone, Copy)]
+pub struct Uses {
+    pub mark: u32,
+    pub first: u16,
 }
 
 // The word of a node without its own part's bit.
@@ -20,27 +19,13 @@ fn others_of(word: u32, own: u8) -> u32
 }
 
 // Marks that node x is used in part p, where the field is an operand.
-fn mark(marks: &mut [u32; 1024], used: bool, x: u16, p: u8)
+fn mark(uses: &mut [Uses; 1024], used: bool, x: u16, p: u8)
     requires { p < 32 }
-    ensures { marks.new ≡ mark_if used x p marks.old }
+    ensures { (marks_of uses.new ≡ mark_if used x p (marks_of uses.old)) × (firsts_of uses.new ≡ firsts_of uses.old) }
 {
     let at = x as usize;
     if used & (at < 1024) {
-        marks[at] |= 1u32 << p;
-    }
-}
-
-// Marks each operand of the nodes, in the part of the node that uses it.
-fn mark_uses(net: &netlist::Netlist, part: &[u8; 1024], marks: &mut [u32; 1024])
-    requires { Fit net.now part.now }
-    ensures { marks.new ≡ marked net.now part.now net.now.nodes marks.old }
-{
-    for i in 0..net.nodes {
-        let m = codes::operand_count(net.code[i]);
-        let p = part[i];
-        mark(marks, 0 < m, net.a[i], p);
-        mark(marks, 1 < m, net.b[i], p);
-        mark(marks, 2 < m, net.c[i], p);
+        uses[at].mark |= 1u32 << p;
     }
 }
 
@@ -61,43 +46,50 @@ fn number_node(word: u32, own: u8, i: usize, queues: &mut crate::Queues)
     }
 }
 
-// The channels of all nodes, by node and then by part, behind the inputs.
-pub fn find_channels(
-    net: &netlist::Netlist,
-    part: &[u8; 1024],
-    queues: &mut crate::Queues,
-) -> Channels
-    requires { Fit net.now part.now × (queues.old.count ≡ length (inputs_of net.now part.now)) }
-    ensures { (queues.new ≡ put_all (channels_all net.now part.now) queues.old) × (queues.new.count ≤ 33792) × Numbered net.now part.now result }
-{
-    let mut channels = Channels {
-        marks: [0; 1024],
-        first: [0; 1024],
-    };
-    mark_uses(net, part, &mut channels.marks);
-    for i in 0..net.nodes {
-        channels.first[i] = queues.count as u16;
-        number_node(channels.marks[i], part[i], i, queues);
+impl crate::drawing::Drawing<'_> {
+    // Marks each operand of the nodes, in the part of the node that uses it.
+    fn mark_uses(&self, uses: &mut [Uses; 1024])
+        ensures { (marks_of uses.new ≡ marked self.now.net.now self.now.part.now self.now.net.now.nodes (marks_of uses.old)) × (firsts_of uses.new ≡ firsts_of uses.old) }
+    {
+        for i in 0..self.net.nodes {
+            let m = codes::operand_count(self.net.code[i]);
+            let p = self.part[i];
+            mark(uses, 0 < m, self.net.a[i], p);
+            mark(uses, 1 < m, self.net.b[i], p);
+            mark(uses, 2 < m, self.net.c[i], p);
+        }
     }
-    channels
-}
 
-impl Channels {
+    // The channels of all nodes, by node and then by part, behind the inputs.
+    pub fn find_channels(&self, queues: &mut crate::Queues) -> [Uses; 1024]
+        requires { queues.old.count ≡ length (inputs_of self.now.net.now self.now.part.now) }
+        ensures { (queues.new ≡ put_all (channels_all self.now.net.now self.now.part.now) queues.old) × (queues.new.count ≤ 33792) × Numbered self.now.net.now self.now.part.now result }
+    {
+        let mut uses = [Uses { mark: 0, first: 0 }; 1024];
+        self.mark_uses(&mut uses);
+        for i in 0..self.net.nodes {
+            let first = queues.count as u16;
+            number_node(uses[i].mark, self.part[i], i, queues);
+            uses[i].first = first;
+        }
+        uses
+    }
+
     // The queue that operand x is read from in part p; none where the field is no operand or x is in that part itself. As many of x's channels stand
     // before it as there are bits below p.
-    pub fn via(&self, net: &netlist::Netlist, part: &[u8; 1024], used: bool, x: u16, p: u8) -> u16
-        requires { Fit net.now part.now × Numbered net.now part.now self.now × (p < 32) }
-        ensures { result ≡ cond (used && nat_lt x net.now.nodes && not (part_of part.now x == p)) (channel_place net.now part.now x p) no_queue }
+    pub fn via(&self, uses: &[Uses; 1024], used: bool, x: u16, p: u8) -> Option<u16>
+        requires { Numbered self.now.net.now self.now.part.now uses.now × (p < 32) }
+        ensures { result ≡ cond (used && nat_lt x self.now.net.now.nodes && not (part_of self.now.part.now x == p)) (Some (channel_place self.now.net.now self.now.part.now x p)) None }
     {
         let i = x as usize;
-        if !(used & (i < net.nodes)) {
-            return crate::NONE;
+        if !(used & (i < self.net.nodes)) {
+            return None;
         }
-        let own = part[i];
+        let own = self.part[i];
         if own == p {
-            return crate::NONE;
+            return None;
         }
-        let below = (others_of(self.marks[i], own) % (1u32 << p)).count_ones();
-        self.first[i] + below as u16
+        let below = (others_of(uses[i].mark, own) % (1u32 << p)).count_ones();
+        Some(uses[i].first + below as u16)
     }
 }

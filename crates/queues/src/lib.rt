@@ -1,16 +1,17 @@
 // The queues of a cut drawing, in the outline's order, found in one pass over the operands.
 #![tactic(auto)]
 
-ghost use Rattle.std.specs.Prelude.{◌≡◌, ◌<◌, ◌≤◌};
+ghost use Rattle.std.specs.Prelude.{◌≡◌, ◌<◌};
 ghost use Rattle.queues.specs.Found.{no_queues, found, queues_found};
-ghost use Rattle.queues.specs.Pass.{Fit, put};
+ghost use Rattle.queues.specs.Pass.{put};
 
 mod channels;
+mod drawing;
 mod ends;
 mod maps;
 mod parts;
 
-// No queue.
+// No queue, as the arrays store it for C.
 const NONE: u16 = 512;
 
 // The queues of a cut, inputs first, then channels, then outputs, and where each node and operand finds its own. Arrays with counts beside them, since C sees them and
@@ -71,30 +72,33 @@ pub fn no_queues() -> Queues
     }
 }
 
-// The queues of a drawing whose parts fit.
-fn number_queues(net: &netlist::Netlist, part: &[u8; 1024]) -> Queues
-    requires { Fit net.now part.now × (net.now.outputs ≤ 64) }
-    ensures { result ≡ found net.now part.now }
-{
-    let mut queues = no_queues();
-    queues.parts = parts::count_parts(&part[..net.nodes]);
-    ends::find_inputs(net, part, &mut queues);
-    queues.inputs = queues.count;
-    let channels = channels::find_channels(net, part, &mut queues);
-    queues.channels = queues.count - queues.inputs;
-    ends::find_outputs(net, part, &mut queues);
-    queues.outputs = net.outputs;
-    maps::map_operands(net, part, &channels, &mut queues);
-    queues
+impl drawing::Drawing<'_> {
+    // The queues of a drawing whose parts fit.
+    fn number_queues(&self) -> Queues
+        ensures { result ≡ found self.now.net.now self.now.part.now }
+    {
+        let mut queues = no_queues();
+        let part = self.part;
+        queues.parts = parts::count_parts(&part[..self.net.nodes]);
+        self.find_inputs(&mut queues);
+        queues.inputs = queues.count;
+        let uses = self.find_channels(&mut queues);
+        queues.channels = queues.count - queues.inputs;
+        self.find_outputs(&mut queues);
+        queues.outputs = self.net.outputs;
+        self.map_operands(&uses, &mut queues);
+        queues
+    }
 }
 
-// The queues of a drawing cut into parts, in order; none where the parts do not fit.
+// The queues of a drawing cut into parts, in order. Where the parts do not fit it gives zeros and no `None`: `queues_found` says so, and behind the checks 3 to 8 it
+// could not fail.
 pub fn find_queues(net: &netlist::Netlist, part: &[u8; 1024]) -> Queues
     ensures { result ≡ queues_found net.now part.now }
 {
     if (net.nodes <= 1024) & (net.outputs <= 64) {
         if parts::parts_fit(&part[..net.nodes]) {
-            return number_queues(net, part);
+            return drawing::Drawing { net, part }.number_queues();
         }
     }
     no_queues()

@@ -3,23 +3,27 @@ ghost use Rattle.std.specs.Prelude.{◌≡◌};
 ghost use Rattle.base.specs.Lists.{fill};
 ghost use Rattle.netlist.specs.Netlists.{record_of};
 ghost use Rattle.queues.specs.Found.{via_of};
-ghost use Rattle.queues.specs.Pass.{Fit, Numbered};
+ghost use Rattle.queues.specs.Pass.{Numbered};
 
-// The queues of each node's operands.
-pub fn map_operands(
-    net: &netlist::Netlist,
-    part: &[u8; 1024],
-    channels: &crate::channels::Channels,
-    queues: &mut crate::Queues,
-)
-    requires { Fit net.now part.now × Numbered net.now part.now channels.now }
-    ensures { queues.new ≡ record queues.old { a = fill (λ i. via_of net.now part.now 0 i (record_of net.now i).a) net.now.nodes queues.old.a; b = fill (λ i. via_of net.now part.now 1 i (record_of net.now i).b) net.now.nodes queues.old.b; c = fill (λ i. via_of net.now part.now 2 i (record_of net.now i).c) net.now.nodes queues.old.c } }
-{
-    for i in 0..net.nodes {
-        let m = codes::operand_count(net.code[i]);
-        let p = part[i];
-        queues.a[i] = channels.via(net, part, 0 < m, net.a[i], p);
-        queues.b[i] = channels.via(net, part, 1 < m, net.b[i], p);
-        queues.c[i] = channels.via(net, part, 2 < m, net.c[i], p);
+impl crate::drawing::Drawing<'_> {
+    // The queues of each node's operands. `Numbered` stands here and at `via`: a struct that has it as a ghost field would hold the drawing too, and `find_channels`
+    // would have to promise that it is the same one.
+    pub fn map_operands(&self, uses: &[crate::channels::Uses; 1024], queues: &mut crate::Queues)
+        requires { Numbered self.now.net.now self.now.part.now uses.now }
+        ensures { queues.new ≡ record queues.old { a = fill (λ i. via_of self.now.net.now self.now.part.now 0 i (record_of self.now.net.now i).a) self.now.net.now.nodes queues.old.a; b = fill (λ i. via_of self.now.net.now self.now.part.now 1 i (record_of self.now.net.now i).b) self.now.net.now.nodes queues.old.b; c = fill (λ i. via_of self.now.net.now self.now.part.now 2 i (record_of self.now.net.now i).c) self.now.net.now.nodes queues.old.c } }
+    {
+        for i in 0..self.net.nodes {
+            let m = codes::operand_count(self.net.code[i]);
+            let p = self.part[i];
+            queues.a[i] = self
+                .via(uses, 0 < m, self.net.a[i], p)
+                .unwrap_or(crate::NONE);
+            queues.b[i] = self
+                .via(uses, 1 < m, self.net.b[i], p)
+                .unwrap_or(crate::NONE);
+            queues.c[i] = self
+                .via(uses, 2 < m, self.net.c[i], p)
+                .unwrap_or(crate::NONE);
+        }
     }
 }

@@ -1,17 +1,12 @@
 // The part numbers: how many parts there are, and whether each number is one.
-ghost use Rattle.std.specs.Prelude.{◌≡◌, suc, length, nat_le, slice_index};
+ghost use Rattle.std.specs.Prelude.{◌≡◌, suc, nat_le, fold, max};
 ghost use Rattle.std.specs.List.{list_all};
-ghost use Rattle.queues.specs.Lists.{largest};
 
 // The number of parts: the largest of the nodes' part numbers, plus one.
 pub fn count_parts(part: &[u8]) -> usize
-    ensures { result ≡ suc (largest (length part.now) (slice_index part.now)) }
+    ensures { result ≡ suc (fold max 0 part.now) }
 {
-    let mut most = 0u8;
-    for p in part {
-        most = most.max(*p);
-    }
-    most as usize + 1
+    part.iter().fold(0u8, |most, p| most.max(*p)) as usize + 1
 }
 
 // Whether no part number is above 31.

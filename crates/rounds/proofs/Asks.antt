@@ -5,7 +5,7 @@ use Prim.Native.Nat.{ℕ, zero, suc, ◌+◌, ◌-◌, ◌<◌, ◌≤◌, min}
 use native.Mathlib.Omega.{arith}
 use borrow.Author.Tests.{lt-ltb, ne_eqb}
 use lib.Dec.{ltb}
-use Rattle.finishes.specs.Finishes.{finished, finishing}
+use Rattle.finishes.specs.Finishes.{finished, finishing_on}
 use Rattle.plans.specs.declared.Plan.{Plan}
 use Rattle.lanes.specs.declared.Network.{Network}
 use Rattle.rounds.specs.Fires.{queue_of, put_alone, put_would, put_left, finish_left, firing, fire_answer}
@@ -24,7 +24,7 @@ module _ (P : Plan) (L : Network) (r q n : ℕ) (hq : q ≡ queue_of P r) (hn : 
 
   module _ (h : n ≤ q) (m : ℕ) (hm : m ≡ min P.parts 32) where
     pub ask_finish : (fired : ℕ) (b : Bool) → q - n < m
-        → fired ≡ finished (finishing P.from P.into L.flag L.used L.count P.limit P.queues (q - n) (q - n + 1)) (min (q - n + 1) 32)
+        → fired ≡ finished (finishing_on P L (q - n) (q - n + 1)) (min (q - n + 1) 32)
         → b ≡ ltb 0 fired
         → cond b 0 14 ≡ fire_answer P L r
     ask_finish fired b l f e =

@@ -6,13 +6,13 @@ use Prim.Native.Nat.{ℕ, zero, suc, ◌+◌, ◌-◌, ◌≤◌, min}
 use native.Mathlib.Omega.{arith}
 use lib.ListN.{get_or}
 use Rattle.base.specs.Lists.{fill}
-use Rattle.puts.specs.Puts.{rules_of, Plan as Rules, Pass, evaluated, needed, put_tried, put_done, put_ready, puts_after}
-use Rattle.finishes.specs.Finishes.{next_held, next_count, used_after, cells_after, flags_after, finished, finishing}
+use Rattle.puts.specs.Puts.{rules_of, Plan as Rules, Pass, Left, evaluated, needed, put_tried, put_done, put_ready, puts_after}
+use Rattle.finishes.specs.Finishes.{next_held, next_count, used_after, cells_after, flags_after, finished, finishing, finishing_on}
 use Rattle.plans.specs.declared.Plan.{Plan}
 use Rattle.lanes.specs.declared.Network.{Network}
 use Rattle.evals.specs.declared.Found.{Found}
 use Rattle.spots.specs.Stores.{net_in}
-use Rattle.spots.specs.Rounds.{Left, first_pass, puts_on, finished_on, finishes_on}
+use Rattle.spots.specs.Rounds.{first_pass, puts_on, finished_on, finishes_on}
 
 pub same_nets : {a b d e j k l m : List ℕ} {f g : List Bool} → a ≡ b → d ≡ e → f ≡ g → j ≡ k → l ≡ m → net_in a d f j l ≡ net_in b e g k m
 same_nets v w x y z = λ i. net_in (v i) (w i) (x i) (y i) (z i)
@@ -21,12 +21,12 @@ module _ (P : Plan) (L : Network) where
   -- Finishes, on a network M that a pass left
   abbrev pub FinishedBy : ℕ → ℕ → Network → List ℕ → ℕ → Network → Type 0
   FinishedBy lo hi M vals r N =
-      (r ≡ finished (finishing P.from P.into M.flag M.used M.count P.limit P.queues lo hi) (min hi 32))
-      × (N.cells ≡ cells_after P.into (finishing P.from P.into M.flag M.used M.count P.limit P.queues lo hi) (min P.queues 512) M.used M.cells)
-      × (N.used ≡ used_after P.into (finishing P.from P.into M.flag M.used M.count P.limit P.queues lo hi) (min P.queues 512) M.used)
-      × (N.flag ≡ flags_after P.from (finishing P.from P.into M.flag M.used M.count P.limit P.queues lo hi) (min P.queues 512) M.flag)
-      × (N.held ≡ fill (next_held P.code P.ra P.part vals (finishing P.from P.into M.flag M.used M.count P.limit P.queues lo hi) M.held) (min P.nodes 1024) M.held)
-      × (N.count ≡ fill (next_count (finishing P.from P.into M.flag M.used M.count P.limit P.queues lo hi) M.count) (min hi 32) M.count)
+      (r ≡ finished (finishing_on P M lo hi) (min hi 32))
+      × (N.cells ≡ cells_after P.into (finishing_on P M lo hi) (min P.queues 512) M.used M.cells)
+      × (N.used ≡ used_after P.into (finishing_on P M lo hi) (min P.queues 512) M.used)
+      × (N.flag ≡ flags_after P.from (finishing_on P M lo hi) (min P.queues 512) M.flag)
+      × (N.held ≡ fill (next_held P.code P.ra P.part vals (finishing_on P M lo hi) M.held) (min P.nodes 1024) M.held)
+      × (N.count ≡ fill (next_count (finishing_on P M lo hi) M.count) (min hi 32) M.count)
 
   pub left-finishes : (T : Pass) (lo hi puts r : ℕ) (M N : Network) (F : Found) → Left L T puts M F → FinishedBy lo hi M F.vals r N
       → (r ≡ finishes_on P L T lo hi) × (N ≡ finished_on P L T lo hi)

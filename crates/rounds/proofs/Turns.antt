@@ -1,5 +1,5 @@
 -- A run's loop: what is done so far, before what is left of the run; and what a rule that is asked would do is what it does.
-use mathlib.Core.Path.{◌≡◌, refl, sym, ◌∙◌, ap, ap₂}
+use mathlib.Core.Path.{◌≡◌, refl, ◌∙◌, ap, ap₂}
 use mathlib.Core.Bool.{Bool, true, false, cond}
 use mathlib.Core.List.{List, []}
 use Prim.Native.Nat.{ℕ, suc, ◌+◌, ◌-◌, ◌<◌, ◌≤◌, min}
@@ -7,7 +7,7 @@ use native.Mathlib.Omega.{arith}
 use borrow.Author.Tests.{eq-eqb, ne_eqb}
 use Rattle.evals.specs.Passes.{tokens_in, tokens_there}
 use Rattle.puts.specs.Puts.{rules_of, Plan as Rules, Pass, mk_pass, needed, evaluated, put_ready, put_done, put_tried, Asked, puts_after}
-use Rattle.finishes.specs.Finishes.{finished, finishing}
+use Rattle.finishes.specs.Finishes.{finished, finishing_on}
 use Rattle.plans.specs.declared.Plan.{Plan}
 use Rattle.lanes.specs.declared.Network.{Network}
 use Rattle.spots.specs.Rounds.{no_vals, no_mets, first_pass, puts_on, finishes_on, round_on, fired_on, all_puts}
@@ -86,7 +86,7 @@ module _ (P : Plan) (L : Network) where
       h.0 ∙ ap₂ (λ x y. put_ready (rules_of P L) q (evaluated (rules_of P L) (needed (rules_of P L) q) (mk_pass 0 0 [] L.used L.flag x y))) v m
 
   -- with no put rule, flags and counts are as they were
-  pub no_puts_lem : (lo hi : ℕ) → finished (finishing P.from P.into L.flag L.used L.count P.limit P.queues lo hi) (min hi 32) ≡ finishes_on P L (no_puts P L) lo hi
+  pub no_puts_lem : (lo hi : ℕ) → finished (finishing_on P L lo hi) (min hi 32) ≡ finishes_on P L (no_puts P L) lo hi
   unfolding puts_on puts_after evaluated
   no_puts_lem lo hi = refl
 

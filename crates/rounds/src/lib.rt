@@ -10,7 +10,7 @@ use plans::Plan;
 use refusals::Refusal;
 use spots::Network;
 
-// What a run gives, as C sees it and so with its answer as a number.
+// What a run gives, as C sees it and so with its answer as a number. README names this result for proved programs too, so that `run` gives no `Result`.
 #[repr(C)]
 #[derive(Clone, Copy)]
 pub struct Ran {

@@ -12,7 +12,7 @@ ghost use Rattle.std.specs.Io.{ReadsAtMost};
 use std::io;
 use std::io::{Error, ErrorKind, Read, Write};
 
-// The first place from `from` on that holds the byte, or the text's length.
+// The first place from `from` on that holds the byte, or the text's length: its promise says so, and no `Option`.
 pub fn find(text: &[u8], from: usize, byte: u8) -> usize
     ensures { (result ≡ from + first_in byte (drop from text.now)) × (from ≤ result) × (result ≤ from + (length text.now - from)) }
 {
@@ -20,7 +20,7 @@ pub fn find(text: &[u8], from: usize, byte: u8) -> usize
     from + rest.iter().position(|x| *x == byte).unwrap_or(rest.len())
 }
 
-// The place after place i, and the text's length where there is none.
+// The place after place i, and the text's length where there is none. No program calls it: it stays for `past_one` of proofs/One and its four edits.
 pub fn past(text: &[u8], i: usize) -> usize
     ensures { (result ≡ min (i + 1) (length text.now)) × (result ≤ length text.now) }
 {
@@ -45,7 +45,8 @@ fn byte(high: u8, low: u8) -> u8
     digit(high) * 16 + digit(low)
 }
 
-// Puts the bytes of a text of hexadecimal digits into `bytes`, as many as there is room for, and gives their number.
+// Puts the bytes of a text of hexadecimal digits into `bytes`, as many as there is room for, and gives their number. By index: of what is
+// written through an adapter of `iter_mut` a proof knows the length alone.
 pub fn unhex(hex: &[u8], bytes: &mut [u8]) -> usize
     ensures { (result ≡ min (length hex.now / 2) (length bytes.old)) × (bytes.new ≡ fill (byte_of hex.now) result bytes.old) × (result ≤ length bytes.new) }
 {
@@ -96,7 +97,8 @@ fn untouched(a: &[u8], filler: u8) -> bool
 }
 
 // The functions that print take the writer to print on. On Ok it holds the whole text behind what it held. An error is the writer's own,
-// or says that it takes nothing more: it then holds a front of the text behind what it held, and nothing else.
+// or says that it takes nothing more: it then holds a front of the text behind what it held, and nothing else. Three clauses and no one relation: answers and
+// proofs/One take them up one by one, by their names.
 
 // Writes all of the bytes, in as many writes as it takes, and tries a write that was interrupted again. `write_all` does so too, but does
 // not say what an error leaves.
@@ -247,7 +249,7 @@ pub fn read_full<R: Read>(input: &mut R, bytes: &mut [u8]) -> io::Result<usize>
     Ok(n)
 }
 
-// Puts the next line of the input into `line`, without its end, as far as there is room, and gives its length: 0 where there is none. An error is the
+// Puts the next line of the input into `line`, without its end, as far as there is room, and gives its length: 0 where there is none, as std's does. An error is the
 // reader's own: the front of the line is lost, and the reader has the rest.
 pub fn read_line<R: Read>(input: &mut R, line: &mut [u8]) -> io::Result<usize>
     ensures bound { ReadsAtMost result line.new }

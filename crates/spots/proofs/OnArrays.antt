@@ -22,14 +22,14 @@ use Rattle.nets.specs.Stored.{cells_of, used_of, flags_of, held_of, counts_of}
 use Rattle.nets.specs.Networks.{network_of}
 use Rattle.nets.specs.Kept.{Kept}
 use Rattle.nets.proofs.Goods.{few-queues, queues_are}
-use Rattle.evals.specs.Passes.{tokens_in, tokens_there}
+use Rattle.evals.specs.Passes.{tokens_in, tokens_there, fields_of}
 use Rattle.finishes.specs.Finishes.{next_held, next_count, used_after, cells_after, flags_after, finished, finishing}
 use Rattle.plans.specs.declared.Plan.{Plan}
 use Rattle.plans.specs.Plans.{nowhere, plan_of}
 use Rattle.puts.specs.Puts.{channels_end, rules_of, Pass, mk_plan, mk_pass, puts_done}
 use Rattle.lanes.specs.declared.Network.{Network}
 use Rattle.spots.specs.Stores.{net_in, store_of}
-use Rattle.spots.specs.Rounds.{no_vals, no_mets, fields_of, first_pass, puts_on, finished_on, all_puts, round_on, fired_on}
+use Rattle.spots.specs.Rounds.{no_vals, no_mets, first_pass, puts_on, finished_on, all_puts, round_on, fired_on}
 use Rattle.spots.proofs.Loading.{Blank, holds-first}
 use Rattle.spots.proofs.Putting.{Holds}
 use Rattle.spots.proofs.Phases.{asked}

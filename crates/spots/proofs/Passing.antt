@@ -26,10 +26,9 @@ use Rattle.nets.specs.Stored.{held_of}
 use Rattle.nets.specs.Networks.{network_of}
 use Rattle.nets.specs.Passed.{value_by, met_by}
 use Rattle.nets.proofs.Turns.{Right, right-node}
-use Rattle.evals.specs.Passes.{Fields, value_now, met_now, vals_after, mets_after}
+use Rattle.evals.specs.Passes.{Fields, value_now, met_now, vals_after, mets_after, fields_of}
 use Rattle.plans.specs.declared.Plan.{Plan}
 use Rattle.plans.specs.Plans.{nowhere, plan_of}
-use Rattle.spots.specs.Rounds.{fields_of}
 use Rattle.spots.proofs.Views.{value_found, met-found}
 
 -- what is found, for a state: the queues' oldest tokens, and the values and met needs of the first m nodes, each in its own part

@@ -35,7 +35,7 @@ use Rattle.nets.proofs.Turns.{Right, right-put, put-value, put_test_lem}
 use Rattle.plans.specs.declared.Plan.{Plan}
 use Rattle.plans.specs.Plans.{nowhere, plan_of}
 use Rattle.puts.specs.Puts.{Plan as Rules, Pass, mk_plan, put_ready, put_done, put_tried}
-use Rattle.spots.specs.Rounds.{fields_of}
+use Rattle.evals.specs.Passes.{fields_of}
 use Rattle.spots.proofs.Passing.{Sees}
 
 turned : (f r t l : Bool) → (true && f && r && t && l) ≡ (l && (f && (r && t)))

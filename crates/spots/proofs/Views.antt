@@ -34,10 +34,9 @@ use Rattle.nets.specs.Stored.{held_of}
 use Rattle.nets.specs.Passed.{there_by, via_a, via_b, via_c, calculated, value_by, all_there, met_by}
 use Rattle.nets.proofs.Goods.{few-queues}
 use Rattle.nets.proofs.Stores.{held_at}
-use Rattle.evals.specs.Passes.{spot, value_now, met_now}
+use Rattle.evals.specs.Passes.{spot, value_now, met_now, fields_of}
 use Rattle.plans.specs.declared.Plan.{Plan}
 use Rattle.plans.specs.Plans.{nowhere, spot_of, first_spot, join_of, plan_of}
-use Rattle.spots.specs.Rounds.{fields_of}
 use Rattle.spots.proofs.Spots.{first_operand, second_operand, third_operand, read_is}
 
 module _ (n : Netlist) (c : Cut) (g : AllGood (net_checks n)) (h : AllGood (cut_checks n c)) (limit : ℕ) where

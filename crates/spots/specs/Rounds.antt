@@ -1,15 +1,13 @@
 -- Rules on a network's arrays, by its plan: the oldest tokens are loaded, put rules are tried with the evaluation on the way, and Finishes that are ready then
 -- are fired at once. A round does all of them; in the outline's words it is RoundMeans (rounds/specs/Meaning).
-use Rattle.std.specs.Prelude.{◌≡◌, Bool, true, false, List, ℕ, ◌+◌, min, set, replicate}
+use Rattle.std.specs.Prelude.{Bool, true, false, List, ℕ, ◌+◌, min, set, replicate}
 use Rattle.base.specs.Lists.{fill}
-use Rattle.evals.specs.declared.Found.{Found}
-use Rattle.evals.specs.Passes.{Fields, mk, tokens_in, tokens_there}
+use Rattle.evals.specs.Passes.{tokens_in, tokens_there}
 use Rattle.puts.specs.Puts.{Pass, mk_pass, rules_of, puts_done}
 use Rattle.finishes.specs.Finishes.{next_held, next_count, used_after, cells_after, flags_after, finished, finishing}
 use Rattle.plans.specs.declared.Plan.{Plan}
 use Rattle.plans.specs.Plans.{nowhere}
 use Rattle.lanes.specs.declared.Network.{Network}
-use Rattle.spots.specs.Stores.{net_in}
 
 -- nothing found yet; what is no operand is always there
 abbrev pub no_vals : List ℕ
@@ -21,14 +19,6 @@ no_mets = set (replicate 2048 false) nowhere true
 -- the oldest tokens of the first n queues
 abbrev pub first_pass : ℕ → List ℕ → List ℕ → List Bool → Pass
 first_pass n cells used flag = mk_pass 0 0 cells used flag (tokens_in cells (min n 512) no_vals) (tokens_there used (min n 512) no_mets)
-
--- what a pass leaves of a network: how many rules fired, the queues, the flags, and what was found
-abbrev pub Left : Network → Pass → ℕ → Network → Found → Type 0
-Left L T fired M F = (fired ≡ T.fired) × (M ≡ net_in T.cells T.used T.flag L.held L.count) × (F.vals ≡ T.vals) × (F.mets ≡ T.mets)
-
--- the fields of the nodes, as a pass reads them
-abbrev pub fields_of : Plan → Fields
-fields_of P = mk P.code P.width P.join P.k P.ra P.rb P.rc
 
 -- after the put rules of the queues from lo up to hi, and then the nodes up to `last`
 unfoldable pub puts_on : Plan → Network → ℕ → ℕ → ℕ → Pass

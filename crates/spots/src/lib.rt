@@ -3,7 +3,8 @@
 
 ghost use Rattle.std.specs.Prelude.{◌≡◌, min};
 ghost use Rattle.evals.specs.Passes.{tokens_in, tokens_there};
-ghost use Rattle.spots.specs.Rounds.{no_vals, no_mets, puts_on, Left};
+ghost use Rattle.puts.specs.Puts.{Left};
+ghost use Rattle.spots.specs.Rounds.{no_vals, no_mets, puts_on};
 
 use evals::Found;
 pub use lanes::Network;
@@ -13,8 +14,7 @@ use plans::Plan;
 pub fn begin(network: &Network, n: usize, found: &mut Found)
     ensures { (found.new.vals ≡ tokens_in network.now.cells (min n 512) no_vals) × (found.new.mets ≡ tokens_there network.now.used (min n 512) no_mets) }
 {
-    found.vals = [0; 2048];
-    found.mets = [false; 2048];
+    *found = evals::NOTHING;
     found.mets[1536] = true;
     found.load(network, n);
 }

@@ -24,7 +24,7 @@ fn read_sheet(rt: &impl Files, path: &str, sheet: &mut [u8]) -> usize
     }
 }
 
-// Plays the bytes of a block and writes out the answers, and gives what has been read of the line that it ends in.
+// Plays the bytes of a block and writes out the answers, and gives what has been read of the line that it ends in. It goes on by what each block took.
 fn play(
     rt: &impl Print,
     plan: &Plan,

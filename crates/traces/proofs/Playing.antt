@@ -3,7 +3,6 @@ use mathlib.Core.Path.{◌≡◌, refl, sym, ap, ◌∙◌}
 use mathlib.Core.Bool.{Bool, true, false, cond}
 use mathlib.Core.List.{List, []}
 use Prim.Native.Nat.{ℕ, ◌+◌}
-use borrow.Author.Tests.{eqb-true, clash}
 use lib.Dec.{eqb, leb}
 use lib.ListN.{length}
 use Rattle.base.proofs.Patch.{patch-none}
@@ -13,7 +12,7 @@ use Rattle.plans.specs.declared.Plan.{Plan}
 use Rattle.lanes.specs.declared.Network.{Network}
 use Rattle.spots.specs.Rounds.{round_on, fired_on}
 use Rattle.rounds.specs.Runs.{Rounded}
-use Rattle.std.specs.Prelude.{Result, Ok, Err}
+use Rattle.std.specs.Prelude.{Ok, Err}
 use Rattle.refusals.specs.declared.Refusal.{Refusal}
 use Rattle.refusals.specs.Numbers.{number}
 use Rattle.refusals.proofs.Numbers.{number_some}

@@ -1,7 +1,7 @@
 // Commands of `trace` played on a network: bytes of input in, bytes of output out.
 #![tactic(auto)]
 
-ghost use Rattle.std.specs.Prelude.{◌≡◌, ◌≤◌, length};
+ghost use Rattle.std.specs.Prelude.{◌≤◌, length};
 ghost use Rattle.traces.specs.Traces.{LinePlayed, BytePlayed, BlockPlayed};
 
 use lines::Reading;
@@ -77,7 +77,7 @@ pub fn block(
 {
     let mut wrote = 0;
     let mut line = reading;
-    for read in 0..input.len() {
+    for (read, x) in input.iter().enumerate() {
         if out.len() - wrote < 42 {
             return Progress {
                 read,
@@ -85,7 +85,7 @@ pub fn block(
                 reading: line,
             };
         }
-        let step = byte(plan, network, line, input[read], out, wrote);
+        let step = byte(plan, network, line, *x, out, wrote);
         wrote += step.wrote;
         line = step.reading;
     }

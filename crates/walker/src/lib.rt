@@ -1,4 +1,4 @@
-// A walker over a net sheet's records: the sheet and a record number, held together. The work is done by functions that take the two apart.
+// A walker over a net sheet's records: the sheet and a record number, held together. Each function of a walker has one beside it of a sheet and a number.
 #![tactic(auto)]
 
 ghost use Rattle.std.specs.Prelude.{◌≡◌};
@@ -43,7 +43,7 @@ pub fn walk<'a>(sheet: &'a [u8]) -> Walker<'a>
     Walker { sheet, number: 0 }
 }
 
-// The record that it stands at.
+// The record that it stands at. It, `next` and `left` are free functions, since README and docs name them so.
 pub fn record<'a>(w: Walker<'a>) -> codes::Record
     ensures { result ≡ stands_at w.entry.sheet.now w.entry.number }
 {

@@ -9,7 +9,7 @@ use std::rt::Files;
 use std::{fs, io};
 
 // Reads until `sheet` is full, the file ends or a read fails; how many bytes stand at the start of `sheet`. No `run_text::read_full`: where a read fails, what
-// was read before counts, and is printed.
+// was read before counts, and is printed. The place goes on by as many bytes as a read gives.
 fn fill(file: &mut impl Read, sheet: &mut [u8]) -> usize
     ensures { result ≤ length sheet.new }
 {

@@ -1,6 +1,5 @@
 -- `cut_trips::copy_cut` meets its contract. The image of what was read is the sheet.
 use mathlib.Core.Path.{◌≡◌, sym, ◌∙◌, ap}
-use native.Mathlib.Omega.{arith}
 use lib.ListN.{length}
 use Rattle.base.specs.Arrays.{Bytes}
 use Rattle.layout.specs.Write.{wrote_as}
@@ -16,7 +15,7 @@ returns-then-got-eq0 c =
     let s = a.sheet.now in
     let old = a.image.now in
     let r = c.read_cut-got in
-    let bytes : Bytes s = λ i. omega (arith, c.shared_slice_known-1.given i) in
+    let bytes : Bytes s = λ i. (c.type_inv.sheet i).fits in
     let e : (cut_read n s).answer ≡ 0 = ap (λ x. x.answer) (sym r.ensures) ∙ c.if-got-eq0.true in
     let d = copy_done n s old bytes e in
     let w = c.write_cut.ensures in
@@ -27,4 +26,4 @@ returns-else-got-eq0 c =
     let a = c.args in
     let r = c.read_cut-got in
     let d = copy-refused a.net.now a.sheet.now a.image.now (λ z. c.if-got-eq0.false (ap (λ x. x.answer) r.ensures ∙ z)) in
-    (ap (λ x. wrote_as x.answer x.place 0) r.ensures ∙ d.0, d.1)
+    (c.wrote_for_c.ensures ∙ ap (λ x. wrote_as x.answer x.place 0) r.ensures ∙ d.0, d.1)

@@ -70,7 +70,7 @@ returns-else-wrote-eq0 c =
     let x = a.cut.now in
     let old = a.image.now in
     let w = c.write_cut-wrote in (
-      rw (c.no_cut.ensures, c.no_queues.ensures)
-          (ap (λ y. record { answer = y.answer; place = y.place; cut = no_cut; queues = no_queues }) w.ensures.0 ∙ reread-refused n x old (λ z. c.if-wrote-eq0.false (ap (λ y. y.answer) w.ensures.0 ∙ z))),
+      c.read_for_c.ensures
+          ∙ (ap (λ y. record { answer = y.answer; place = y.place; cut = no_cut; queues = no_queues }) w.ensures.0 ∙ reread-refused n x old (λ z. c.if-wrote-eq0.false (ap (λ y. y.answer) w.ensures.0 ∙ z))),
       w.ensures.1,
     )

@@ -1,5 +1,5 @@
 -- `finishes::take_all` meets its contract. A turn takes from one queue and puts one flag off.
-use Rattle.std.proofs.Common.{◌≡◌, ◌<◌, cond, false, get_or, ltb, ◌&&◌, refl, ◌∙◌, lt-ltb, arith}
+use Rattle.std.proofs.Common.{◌≡◌, ◌<◌, cond, false, get_or, ltb, ◌&&◌, refl, ap, ◌∙◌, lt-ltb, arith}
 use Rattle.lanes.specs.Lanes.{take_used}
 use Rattle.finishes.specs.Finishes.{part_in, take_if, cells_after, used_after, flags_after}
 use Rattle.finishes.proofs.Turns.{used_turn, cells-turn, flags-turn}
@@ -24,7 +24,9 @@ loop-q-preserved c =
       | then-fin-takes w ↦
           let b = lt-ltb l.q 512 h in
           let e = w.take.ensures in
-          rw (w.network-is, w.if-fin-takes.true) (rw b at e.0, rw b at e.1, e.2, e.3, e.4)
+          let x = ap (λ n. n.cells) e in
+          let y = ap (λ n. n.used) e in
+          rw (w.network-is, w.if-fin-takes.true) (rw b at x, rw b at y, ap (λ n. n.flag) e, ap (λ n. n.held) e, ap (λ n. n.count) e)
       | else-fin-takes w ↦ rw (w.network-is, w.if-fin-takes.false) (refl, refl, refl, refl, refl)
     ] in (
       cells-turn _ _ l.q _ _ _ _ _ v.1 v.0 t.0,

@@ -7,8 +7,6 @@ use borrow.Author.Tests.{lt-ltb}
 use lib.Dec.{ltb}
 use lib.ListN.{get_or}
 use Rattle.base.specs.Checks.{verdict}
-use Rattle.lanes.specs.Lanes.{take_cells, take_used}
-use Rattle.spots.specs.Stores.{net_in}
 use Rattle.moves.specs.Moves.{drain_checked, drain_left}
 use Rattle.moves.proofs.Answers.{output-none, output-some}
 use Rattle.moves.proofs.drain.Goals as goal
@@ -35,6 +33,4 @@ returns c =
     let n = c.args.network.now in
     let a : ltb q 512 ≡ true = lt-ltb q 512 e.1 in
     let b : ltb 0 (get_or n.used q 0) ≡ true = lt-ltb 0 (get_or n.used q 0) (omega (arith, c.if-empty.false)) in
-    let x : c.take.new.self.cells ≡ take_cells n.cells q = c.take.ensures.0 ∙ rw (a, b) refl in
-    let y : c.take.new.self.used ≡ take_used n.used q = c.take.ensures.1 ∙ rw (a, b) refl in
-    rw (e.0, a, b) (refl, λ i. net_in (x i) (y i) (c.take.ensures.2 i) (c.take.ensures.3 i) (c.take.ensures.4 i))
+    rw (e.0, a, b) (refl, c.take.ensures ∙ rw (a, b) refl)

@@ -7,8 +7,6 @@ use borrow.Author.Tests.{lt-ltb, le-ltb}
 use lib.Dec.{ltb}
 use lib.ListN.{get_or}
 use Rattle.base.specs.Checks.{verdict}
-use Rattle.lanes.specs.Lanes.{push_cells, push_used}
-use Rattle.spots.specs.Stores.{net_in}
 use Rattle.moves.specs.Moves.{feed_checked, feed_left}
 use Rattle.moves.proofs.feed.Goals as goal
 
@@ -37,6 +35,4 @@ returns c =
     let n = a.network.now in
     let h : a.input < min a.plan.now.inputs 512 = omega (arith, c.if-min-q.false, c.min.ensures) in
     let k : ltb a.input 512 ≡ true = lt-ltb a.input 512 (omega arith) in
-    let x : c.push.new.self.cells ≡ push_cells n.cells n.used a.input a.value = c.push.ensures.0 ∙ rw k refl in
-    let y : c.push.new.self.used ≡ push_used n.used a.input = c.push.ensures.1 ∙ rw k refl in
-    rw (lt-ltb a.input (min a.plan.now.inputs 512) h, ← c.below.ensures, c.if-not-below.false, lt-ltb (get_or n.used a.input 0) (get_or a.plan.now.depth a.input 0) c.if-plan-q.false) (refl, λ i. net_in (x i) (y i) (c.push.ensures.2 i) (c.push.ensures.3 i) (c.push.ensures.4 i))
+    rw (lt-ltb a.input (min a.plan.now.inputs 512) h, ← c.below.ensures, c.if-not-below.false, lt-ltb (get_or n.used a.input 0) (get_or a.plan.now.depth a.input 0) c.if-plan-q.false) (refl, c.push.ensures ∙ rw k refl)

@@ -25,4 +25,4 @@ returns-else-got-eq0 c =
     let old = c.args.image.now in
     let r = c.read_net-got in
     let d = copy-refused s old (λ z. c.if-got-eq0.false (ap (λ x. x.answer) r.ensures ∙ z)) in
-    (ap (λ x. wrote_as x.answer x.place 0) r.ensures ∙ d.0, d.1)
+    (c.wrote_for_c.ensures ∙ ap (λ x. wrote_as x.answer x.place 0) r.ensures ∙ d.0, d.1)

@@ -66,6 +66,6 @@ returns-else-wrote-eq0 c =
     let a = c.args in
     let old = a.image.now in
     let w = c.write_net-wrote in (
-      rw c.no_net.ensures (ap (λ x. record { answer = x.answer; place = x.place; net = no_net }) w.ensures.0 ∙ reread-refused a.net.now old (λ z. c.if-wrote-eq0.false (ap (λ x. x.answer) w.ensures.0 ∙ z))),
+      c.read_for_c.ensures ∙ (ap (λ x. record { answer = x.answer; place = x.place; net = no_net }) w.ensures.0 ∙ reread-refused a.net.now old (λ z. c.if-wrote-eq0.false (ap (λ x. x.answer) w.ensures.0 ∙ z))),
       w.ensures.1,
     )

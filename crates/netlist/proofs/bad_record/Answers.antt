@@ -1,19 +1,15 @@
--- `netlist::bad_record` meets its contract. The search from here on is the whole search.
-use mathlib.Core.Path.{sym, ◌∙◌}
-use native.Mathlib.Omega.{arith}
-use Rattle.base.proofs.First.{bad-here, bad-next, bad-none, bad-start}
+-- `netlist::bad_record` meets its contract. What `find` gives over the nodes' numbers is the lowest record that is not good.
+use Rattle.std.proofs.Common.{◌≡◌, true, false, rules, tests}
+use Rattle.std.proofs.lemmas.Iterator.{first_from_Range}
+use Rattle.base.proofs.First.{found_lowest}
+use Rattle.codes.specs.Records.{record_good}
+use Rattle.netlist.specs.Netlists.{record_of}
 use Rattle.netlist.proofs.bad_record.Goals as goal
 
-pub loop-i-init : goal.loop-i-init
-loop-i-init c = bad-start _ _
-
-pub returns-then-not-record_good : goal.returns-then-not-record_good
-returns-then-not-record_good c =
-    sym (bad-here _ _ _ c.loop-i-test.true (rw (← c.record_of.ensures) (sym c.record_good.ensures ∙ c.if-not-record_good.true))) ∙ c.loop-i.invariant
-
-pub loop-i-preserved : goal.loop-i-preserved
-loop-i-preserved c =
-    sym (bad-next _ _ _ c.loop-i-test.true (rw (← c.record_of.ensures) (sym c.record_good.ensures ∙ c.if-not-record_good.false))) ∙ c.loop-i.invariant
-
 pub returns : goal.returns
-returns c = sym (bad-none _ _ _ (omega arith)) ∙ c.loop-i.invariant
+returns c =
+    let n = c.args.net.now in
+    found_lowest (λ i. record_good n.width n.nodes i (record_of n i)) n.nodes _
+    (first_from_Range _ _ _ _ (λ i. record_good n.width n.nodes i (record_of n i) ≡ false) (λ i. record_good n.width n.nodes i (record_of n i) ≡ true) c.find.ensures.ran
+    (λ x q k. search (rules, tests))
+    (λ x q k. (search rules, search (rules, tests))))

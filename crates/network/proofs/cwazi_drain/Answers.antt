@@ -4,4 +4,4 @@ use Rattle.network.proofs.Whole.{drain-whole}
 use Rattle.network.proofs.cwazi_drain.Goals as goal
 
 pub returns : goal.returns
-returns c = drain-whole c.args.plan.now c.args.network.now c.args.output c.drained_for_c.result c.drain.new.network (c.drained_for_c.ensures ∙ c.drain.ensures.0, c.drain.ensures.1)
+returns c = drain-whole c.args.plan.now c.args.network.now c.args.output c.from.result c.drain.new.network (c.from.ensures ∙ c.drain.ensures.0, c.drain.ensures.1)

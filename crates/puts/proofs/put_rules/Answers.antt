@@ -51,4 +51,4 @@ returns c =
     let s : S ≡ puts_after P a.lo (min a.hi 512 - a.lo) (pass_of a.network.now a.found.now) = rw (← n) v.5 in
     let e = c.evaluate-2.ensures in
     let d = evaluated_is P a.last _ _ S _ _ v.3 refl e.0 e.1 ∙ ap (λ x. evaluated P a.last x) s in
-    (ap (λ x. x.fired) d, ap (λ x. x.cells) d, ap (λ x. x.used) d, ap (λ x. x.flag) d, ap (λ x. x.vals) d, ap (λ x. x.mets) d, v.3, v.4)
+    (ap (λ x. x.fired) d, λ i. record { cells = (d i).cells; used = (d i).used; flag = (d i).flag; held = v.3 i; count = v.4 i }, ap (λ x. x.vals) d, ap (λ x. x.mets) d)

@@ -12,11 +12,14 @@ nodes_few n m e = leb-true n 1024 (and_left (leb n 1024) (leb m 64) e)
 outputs_few : (n m : ℕ) → (leb n 1024 && leb m 64) ≡ true → m ≤ 64
 outputs_few n m e = leb-true m 64 (and_right (leb n 1024) (leb m 64) e)
 
-pub number_queues-requires : goal.number_queues-requires
-number_queues-requires c =
+pub invariant_of-number_queues-clause-fits : goal.invariant_of-number_queues-clause-fits
+invariant_of-number_queues-clause-fits c =
     let n = c.args.net.now in
     let l = nodes_few n.nodes n.outputs c.if-net.true in
-    (record { nodes = l; parts = sym (all_taken (λ p. leb p 31) c.args.part.now n.nodes (omega arith)) ∙ sym c.parts_fit.ensures ∙ c.if-parts_fit.true }, outputs_few n.nodes n.outputs c.if-net.true)
+    record { nodes = l; parts = sym (all_taken (λ p. leb p 31) c.args.part.now n.nodes (omega arith)) ∙ sym c.parts_fit.ensures ∙ c.if-parts_fit.true }
+
+pub invariant_of-number_queues-clause-outputs_few : goal.invariant_of-number_queues-clause-outputs_few
+invariant_of-number_queues-clause-outputs_few c = let n = c.args.net.now in outputs_few n.nodes n.outputs c.if-net.true
 
 pub returns-then-parts_fit : goal.returns-then-parts_fit
 unfolding queues_found

@@ -6,4 +6,4 @@ use Rattle.cut_sheet.proofs.load.cut_from.Goals as goal
 pub returns : goal.returns
 returns c =
     let t = c.args.s in
-    cut_from_is c.args.sheet.now t.front t.middle t.labels _ _ c.no_cut-cut.result _ _ _ c.requires (omega arith) (omega arith) c.no_cut-cut.ensures c.load.ensures c.load-2.ensures c.load-3.ensures
+    cut_from_is c.args.sheet.now t.front t.middle t.labels _ _ c.no_cut-cut.result _ _ _ c.requires (omega arith) (omega arith) c.no_cut-cut.ensures c.load_bytes.ensures c.load_bytes-2.ensures c.load_bytes-3.ensures

@@ -2,7 +2,7 @@
 use Rattle.std.proofs.Common.{◌≡◌, suc, length, sym, ◌∙◌, ap, arith, rules}
 use Rattle.std.proofs.lemmas.List.{length-take-le}
 use native.Mathlib.Nat.{suc-mul, mul-le-mul_right}
-use Rattle.cycles.specs.Pass.{mk}
+use Rattle.cycles.specs.Pass.{fields_of}
 use Rattle.cycles.proofs.Listed.{puts-length}
 use Rattle.cycles.proofs.Turns.{promised_none, promised_turn, pass_is}
 use Rattle.cycles.specs.Steps.{unlabelled}
@@ -28,7 +28,7 @@ loop-t-preserved c =
     let start = c.put_held in
     let held = c.list_of-held.ensures in
     let N = unlabelled a.net.now in
-    let F = mk N.code N.width N.a N.b N.c N.k in
+    let F = fields_of N in
     let put : length first.new.vals ≡ 1024 = search rules in
     let long : length start.new.vals ≡ 1024 = search rules in
     let full : length v.vals ≡ 1024 = sym (ap length first.ensures ∙ puts-length _ _ _ _) ∙ put in

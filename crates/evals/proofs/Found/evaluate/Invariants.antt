@@ -1,10 +1,10 @@
 -- `evals::Found::evaluate` meets its contract. A turn evaluates one node.
 use Rattle.std.proofs.Common.{◌≡◌, ◌-◌, ◌≤◌}
-use Rattle.evals.specs.Passes.{mk, vals_after, mets_after}
+use Rattle.evals.specs.Passes.{fields_of, vals_after, mets_after}
 use Rattle.evals.proofs.Found.evaluate.Given as goal
 
 abbrev pub invariant-loop-i : goal.invariant-loop-i
 invariant-loop-i l =
     (l.i - l.lo ≤ l.i-end - l.lo)
-    × (l.self.vals ≡ vals_after (mk l.plan.code l.plan.width l.plan.join l.plan.k l.plan.ra l.plan.rb l.plan.rc) l.held l.lo (l.i - l.lo) l.initial.self.vals)
-    × (l.self.mets ≡ mets_after (mk l.plan.code l.plan.width l.plan.join l.plan.k l.plan.ra l.plan.rb l.plan.rc) l.lo (l.i - l.lo) l.initial.self.mets)
+    × (l.self.vals ≡ vals_after (fields_of l.plan) l.held l.lo (l.i - l.lo) l.initial.self.vals)
+    × (l.self.mets ≡ mets_after (fields_of l.plan) l.lo (l.i - l.lo) l.initial.self.mets)

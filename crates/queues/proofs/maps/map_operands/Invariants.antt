@@ -1,7 +1,0 @@
--- `queues::maps::map_operands` meets its contract. Each place is its own node's.
-use Rattle.std.proofs.Common.{◌≡◌}
-use Rattle.queues.proofs.Whole.{mapped}
-use Rattle.queues.proofs.maps.map_operands.Given as goal
-
-abbrev pub invariant-loop-i : goal.invariant-loop-i
-invariant-loop-i l = l.queues ≡ mapped l.net l.part l.i l.initial.queues
