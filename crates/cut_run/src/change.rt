@@ -2,6 +2,7 @@
 use cut::Cut;
 
 // Every place from `from` on, as rubbish. net_run has it too: in run_text it would be public, with a promise of its own, for one line.
+// No `fill`: it asks that a clone of a T cannot fail, which a proof does not know of every `Copy` type.
 fn rubbish<T: Copy>(cells: &mut [T], from: usize, x: T) {
     for cell in cells.iter_mut().skip(from) {
         *cell = x;
