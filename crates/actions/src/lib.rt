@@ -18,11 +18,15 @@ pub struct Action {
     pub value: u32,
 }
 
-// How many actions are drains. The same of a list of kinds stands in `orders`, and one function for both would be longer than the two lines.
+// How many actions are drains. The same of a list of kinds stands in `orders`, for the same reason; one function for both would be longer than the two.
 fn count_drains(actions: &[Action]) -> usize
     ensures { result ≡ length (filter (λ a. eqb a.kind 1) actions.now) }
 {
-    actions.iter().filter(|a| a.kind == 1).count()
+    let mut found = 0;
+    for a in actions {
+        found += usize::from(a.kind == 1);
+    }
+    found
 }
 
 // An order of actions, each tried in turn: 16 where it has more drains than `drained` has places, and then none is. Drained values go to `drained` from its start.

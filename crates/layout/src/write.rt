@@ -29,11 +29,14 @@ pub fn wrote_for_c(wrote: Result<usize, base::Verdict>) -> Wrote
     }
 }
 
-// Puts `from` into the image from byte `at` on; where it does not fit, nothing.
+// Puts `from` into the image from byte `at` on; where it does not fit, nothing. Byte by byte: `copy_from_slice` from one lent struct to another calls `memmove`, a
+// name that the archive for C would need from outside beside `memcpy` and `memset`.
 pub fn put_bytes(image: &mut [u8], at: usize, from: &[u8])
     ensures { image.new ≡ placed image.old at from.now }
 {
     if at <= image.len() && from.len() <= image.len() - at {
-        image[at..at + from.len()].copy_from_slice(from);
+        for (j, x) in from.iter().enumerate() {
+            image[at + j] = *x;
+        }
     }
 }

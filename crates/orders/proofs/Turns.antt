@@ -7,8 +7,10 @@ use native.Mathlib.Numerals.{add-one}
 use native.Mathlib.Omega.{arith}
 use borrow.Author.Tests.{lt-ltb, le-ltb, eqb-true, ltb-false, not-true, ne_eqb}
 use lib.Dec.{eqb, ltb}
-use lib.ListN.{length, get_or}
+use lib.ListN.{length, get_or, take}
+use mir.Val.{bool_byte}
 use Rattle.std.specs.List.{filter}
+use Rattle.std.proofs.lemmas.List.Filters.{length-filter_more}
 use Rattle.base.specs.Checks.{verdict}
 use Rattle.base.proofs.Tests.{and_left, and_right}
 use Rattle.nets.specs.Lists.{bit}
@@ -36,6 +38,17 @@ drains-counted kind none (x ∷ xs) e h =
     one : (b : Bool) → length (cond b (x ∷ filter (λ x. eqb (kind x) 1) xs) (filter (λ x. eqb (kind x) 1) xs)) ≡ bit b + length (filter (λ x. eqb (kind x) 1) xs)
     one true = omega arith
     one false = omega arith
+
+-- a turn of the count: the entry at i adds one where it is a drain
+pub drains-more : {A : Type 0} (t : A → Bool) (none : A) (xs : List A) (i found more : ℕ) → i < length xs → found ≡ length (filter t (take i xs)) → found ≤ i
+    → more ≡ bool_byte (t (get_or xs i none)) → (found + more ≡ length (filter t (take (i + 1) xs))) × (found + more ≤ i + 1)
+drains-more t none xs i found more h e few m =
+    let s = byte (t (get_or xs i none)) in
+    (rw (e, m, s.0) (sym (length-filter_more t xs i none h)), omega (arith, few, m, s.1))
+  where
+    byte : (b : Bool) → (bool_byte b ≡ cond b 1 0) × (bool_byte b ≤ 1)
+    byte true = (refl, omega arith)
+    byte false = (refl, omega arith)
 
 -- ---- whether an order is played
 

@@ -1,5 +1,5 @@
 -- Lists in order, and their entries stored one behind the other: a turn of a loop that finds one more entry or none. By induction on the entries.
-use Rattle.std.proofs.Common.{◌≡◌, ℕ, zero, suc, ◌+◌, ◌*◌, ◌<◌, ◌≤◌, Bool, true, false, cond, List, [], ◌∷◌, ◌++◌, length, get_or, set, sym, refl, ap, ◌∙◌, ⊎_elim, append-nil, le_of_suc-le-suc, not-suc-le-zero, add-zero, add-suc, eq-or-lt_of_le, add-one, arith, length-append, length-set, get_or-set_other, get_or-set_same}
+use Rattle.std.proofs.Common.{◌≡◌, ℕ, zero, suc, ◌+◌, ◌*◌, ◌<◌, ◌≤◌, Bool, true, false, cond, List, [], ◌∷◌, ◌++◌, length, get_or, set, sym, refl, ap, ◌∙◌, ⊎_elim, append-nil, le_of_suc-le-suc, not-suc-le-zero, add-zero, add-suc, eq-or-lt_of_le, add-one, arith, length-append, length-set, slice_set, get_or-set_other, get_or-set_same}
 use Rattle.queues.specs.Lists.{listed, laid, one_if, some, largest}
 
 module _ {A : Type 0} where
@@ -22,6 +22,15 @@ module _ {A : Type 0} where
   laid_at f d k (q ∷ qs) xs (suc j) h b =
       let e : k + suc j ≡ suc k + j = omega arith in
       rw e (laid_at f d (suc k) qs (set xs k (f q)) j (omega arith) (rw (length-set xs k (f q)) (omega arith)))
+
+  laid_if : (f : A → ℕ) (k : ℕ) (b : Bool) (x : A) (xs : List ℕ) → laid f k (one_if b x) xs ≡ cond b (slice_set xs k (f x)) xs
+  unfolding laid
+  laid_if f k true x xs = refl
+  laid_if f k false x xs = refl
+
+  -- one more entry, or none
+  pub laid-turn : (f : A → ℕ) (k : ℕ) (qs : List A) (b : Bool) (x : A) (xs l : List ℕ) (j : ℕ) → l ≡ laid f k qs xs → j ≡ k + length qs → cond b (slice_set l j (f x)) l ≡ laid f k (qs ++ one_if b x) xs
+  laid-turn f k qs b x xs l j e h = rw (e, h) (sym (laid_append f k qs (one_if b x) xs ∙ laid_if f (k + length qs) b x (laid f k qs xs)))
 
   one-length : (b : Bool) (x : A) → length (one_if b x) ≡ cond b 1 0
   one-length true x = refl
@@ -61,6 +70,29 @@ module _ {A : Type 0} where
 
   pub ones-few : (n : ℕ) (t : ℕ → Bool) (x : ℕ → A) → length (listed n (λ i. one_if (t i) (x i))) ≤ n
   ones-few n t x = let h = listed-few n 1 (λ i. one_if (t i) (x i)) (λ k l. one-few (t k) (x k)) in omega arith
+
+-- a loop that finds an entry in each turn where a test holds: how many it has found, and what it has stored
+module _ {A : Type 0} (t : ℕ → Bool) (x : ℕ → A) where
+  pub count_turn : (i q r : ℕ) → q ≡ length (listed i (λ j. one_if (t j) (x j))) → r ≡ cond (t i) 1 0 → q + r ≡ length (listed (i + 1) (λ j. one_if (t j) (x j)))
+  count_turn i q r e h = rw (e, h) (sym (ap length (listed_next i (λ j. one_if (t j) (x j))) ∙ length-turn (listed i (λ j. one_if (t j) (x j))) (t i) (x i)))
+
+  pub store-turn : (f : A → ℕ) (k i j v : ℕ) (xs l m : List ℕ) → l ≡ laid f k (listed i (λ j. one_if (t j) (x j))) xs → j ≡ k + length (listed i (λ j. one_if (t j) (x j))) → v ≡ f (x i) → m ≡ cond (t i) (slice_set l j v) l → m ≡ laid f k (listed (i + 1) (λ j. one_if (t j) (x j))) xs
+  store-turn f k i j v xs l m e h g s =
+      s
+      ∙ ap (λ y. cond (t i) (slice_set l j y) l) g
+      ∙ laid-turn f k (listed i (λ j. one_if (t j) (x j))) (t i) (x i) xs l j e h
+      ∙ ap (λ qs. laid f k qs xs) (sym (listed_next i (λ j. one_if (t j) (x j))))
+
+-- a loop that finds a stretch of entries in each turn
+module _ {A : Type 0} (g : ℕ → List A) where
+  pub stretch-count : (i : ℕ) → length (listed (i + 1) g) ≡ length (listed i g) + length (g i)
+  stretch-count i = ap length (listed_next i g) ∙ length-append (listed i g) (g i)
+
+  pub stretch-turn : (f : A → ℕ) (k i j : ℕ) (xs l m : List ℕ) → l ≡ laid f k (listed i g) xs → j ≡ k + length (listed i g) → m ≡ laid f j (g i) l → m ≡ laid f k (listed (i + 1) g) xs
+  stretch-turn f k i j xs l m e h s =
+      s
+      ∙ rw (e, h) (sym (laid_append f k (listed i g) (g i) xs))
+      ∙ ap (λ qs. laid f k qs xs) (sym (listed_next i g))
 
 -- an entry in each turn
 pub ones-all : {A : Type 0} (x : ℕ → A) (n : ℕ) → length (listed n (λ j. one_if true (x j))) ≡ n

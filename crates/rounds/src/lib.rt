@@ -3,7 +3,7 @@
 
 ghost use Rattle.std.specs.Prelude.{◌≡◌};
 ghost use Rattle.refusals.specs.Numbers.{answer};
-ghost use Rattle.rounds.specs.Fires.{fire_answer, Fired};
+ghost use Rattle.rounds.specs.Fires.{put_would, fire_answer, Fired};
 ghost use Rattle.rounds.specs.Runs.{Rounded, Runs};
 
 use plans::Plan;
@@ -42,6 +42,16 @@ pub fn fire(plan: &Plan, network: &mut Network, rule: u32) -> Result<(), Refusal
     Ok(())
 }
 
+// Whether a put rule would fire. Apart from `ready` and never inlined there: what it finds is ten kilobytes, which a Finish and a number of no rule need not clear.
+#[inline(never)]
+fn put_would(plan: &Plan, network: &Network, q: usize) -> bool
+    ensures { result ≡ put_would plan.now network.now q }
+{
+    let mut found = evals::NOTHING;
+    spots::begin(network, plan.queues, &mut found);
+    puts::put_asked(plan, network, q, &mut found)
+}
+
 // What firing a rule would give now. Nothing is changed.
 pub fn ready(plan: &Plan, network: &Network, rule: u32) -> Result<(), Refusal>
     ensures { answer result ≡ fire_answer plan.now network.now rule }
@@ -49,9 +59,7 @@ pub fn ready(plan: &Plan, network: &Network, rule: u32) -> Result<(), Refusal>
     let q = plan.inputs.min(512) + rule as usize;
     let n = plan.queues.min(512);
     let is_ready = if q < n {
-        let mut found = evals::NOTHING;
-        spots::begin(network, plan.queues, &mut found);
-        puts::put_asked(plan, network, q, &mut found)
+        put_would(plan, network, q)
     } else if q - n < plan.parts.min(32) {
         let p = q - n;
         0 < finishes::finish_asked(plan, network, p, p + 1)

@@ -21,15 +21,16 @@ fn joined(v: u8, x: u32, y: u32) -> u32
 }
 
 // By the code, not yet reduced to w bits; IN and REG, whose values the state holds, give 0 here, and so does what is no code. The codes fall in ranges by the operands
-// they take, and each code that computes has an arm of its own: one jump finds it, and an operand is read only where its code asks for it.
+// they take, and each code that computes has an arm of its own: one jump finds it, and an operand is read only where its code asks for it. CONST is told in its range,
+// before the jump. Both functions are inlined where a drawing's nodes are gone over: a call for each node takes up to twice the time.
 #[tactic(auto, unfolding(crate::specs::Values::code_of, crate::specs::Values::constant_of, crate::specs::Values::one_of, crate::specs::Values::two_of, crate::specs::Values::compared_of, crate::specs::Values::shifted_of, crate::specs::Values::wired_of))]
+#[inline(always)]
 fn coded(code: u8, w: u8, v: u8, k: u32, x: u32, y: u32, z: u32) -> u32
     requires { (w ≤ 32) × (v ≤ 32) }
     ensures { low w result ≡ low w (code_of code w v k x y z) }
 {
     match code {
-        0x01 => k,
-        0x00..=0x0F => 0,
+        0x00..=0x0F => if code == 0x01 { k } else { 0 },
         // one operand
         0x10 => !x,
         0x11 => 0u32.wrapping_sub(x),
@@ -61,6 +62,7 @@ fn coded(code: u8, w: u8, v: u8, k: u32, x: u32, y: u32, z: u32) -> u32
 
 // The value of a node: its code, its width w, the width v of its operand b, its k, and the values x, y and z of its operands a, b and c.
 #[tactic(auto, unfolding(crate::specs::Values::value_of))]
+#[inline(always)]
 pub fn node_value(code: u8, w: u8, v: u8, k: u32, x: u32, y: u32, z: u32) -> u32
     ensures { result ≡ value_of code w v k x y z }
 {

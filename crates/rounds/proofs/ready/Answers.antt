@@ -3,7 +3,6 @@ use mathlib.Core.Path.{sym, ◌∙◌, ap}
 use mathlib.Core.Bool.{cond}
 use Prim.Native.Nat.{◌+◌}
 use Rattle.rounds.proofs.Asks.{ask_put, ask_finish, ask_none}
-use Rattle.rounds.proofs.Turns.{would_be}
 use Rattle.rounds.proofs.ready.Goals.{then-q-n, else-q-n+then-q-n-2}
 use Rattle.rounds.proofs.ready.Goals as goal
 
@@ -18,8 +17,7 @@ returns-then-is_ready c =
     sym (ap (λ b. cond b 0 14) c.if-is_ready.true)
     ∙ elim c.if-q-n.branch [
       | then-q-n w ↦
-          let b = w.begin.ensures in
-          ask_put P L c.args.rule _ _ hq c.min-n.ensures c.if-q-n.is_ready w.if-q-n.true (w.is_ready-is ∙ would_be P L _ _ _ _ _ _ b.0 b.1 w.put_asked-is_ready.ensures)
+          ask_put P L c.args.rule _ _ hq c.min-n.ensures c.if-q-n.is_ready w.if-q-n.true (w.is_ready-is ∙ w.put_would-is_ready.ensures)
       | else-q-n+then-q-n-2 w ↦
           ask_finish P L c.args.rule _ _ hq c.min-n.ensures w.if-q-n.false _ w.min-else-q-n.ensures _ c.if-q-n.is_ready w.if-q-n-2.true w.finish_asked.ensures w.is_ready-is
     ]
@@ -32,8 +30,7 @@ returns-else-is_ready c =
     sym (ap (λ b. cond b 0 14) c.if-is_ready.false)
     ∙ elim c.if-q-n.branch [
       | then-q-n w ↦
-          let b = w.begin.ensures in
-          ask_put P L c.args.rule _ _ hq c.min-n.ensures c.if-q-n.is_ready w.if-q-n.true (w.is_ready-is ∙ would_be P L _ _ _ _ _ _ b.0 b.1 w.put_asked-is_ready.ensures)
+          ask_put P L c.args.rule _ _ hq c.min-n.ensures c.if-q-n.is_ready w.if-q-n.true (w.is_ready-is ∙ w.put_would-is_ready.ensures)
       | else-q-n+then-q-n-2 w ↦
           ask_finish P L c.args.rule _ _ hq c.min-n.ensures w.if-q-n.false _ w.min-else-q-n.ensures _ c.if-q-n.is_ready w.if-q-n-2.true w.finish_asked.ensures w.is_ready-is
     ]

@@ -1,0 +1,21 @@
+-- `orders::count_drains` meets its contract. A turn counts one entry.
+use Rattle.std.proofs.Common.{◌≡◌, eqb, length, take, ◌∙◌, ap, refl, arith}
+use lib.Seq.{take-length}
+use Rattle.std.specs.List.{filter}
+use Rattle.orders.proofs.Turns.{drains-more}
+use Rattle.orders.proofs.count_drains.Goals as goal
+
+pub loop-kind-init : goal.loop-kind-init
+loop-kind-init c = (refl, omega arith)
+
+pub loop-kind-preserved : goal.loop-kind-preserved
+loop-kind-preserved c =
+    let l = c.loop-kind in
+    drains-more (λ kind. eqb kind 1) 0 c.args.kinds.now l.kind-index l.found _ c.loop-kind-test.true l.invariant.0 l.invariant.1 c.from-found.ensures
+
+pub returns : goal.returns
+returns c =
+    let l = c.loop-kind in
+    let xs = c.args.kinds.now in
+    let e : l.kind-index ≡ length xs = omega (arith, l.auto.kind-index-end, c.loop-kind-test.false) in
+    l.invariant.0 ∙ ap (λ n. length (filter (λ kind. eqb kind 1) (take n xs))) e ∙ ap (λ ys. length (filter (λ kind. eqb kind 1) ys)) (take-length xs)
