@@ -1,11 +1,13 @@
 -- Widths: 2 ^ w as the machine makes it, and what 32 bits wrap, in w bits. Stated once over w.
 use mathlib.Core.Path.{◌≡◌, refl, sym, ap, ◌∙◌}
 use mathlib.Core.Bool.{Bool, true, false}
-use Prim.Native.Nat.{ℕ, ◌+◌, ◌-◌, ◌*◌, ◌/◌, ◌%◌, ◌^◌, ◌≤◌, ◌<◌, min}
-use native.Mathlib.Nat.{min-eq_left, min-eq_right, one-mul, add-mul, mod-lt, div-add-mod', mod-add-mod, add-mod_right, add-mul-mod_self_right, mul-add-mod_self_right}
+use Prim.Native.Nat.{ℕ, ◌+◌, ◌-◌, ◌*◌, ◌/◌, ◌%◌, ◌^◌, ◌≤◌, ◌<◌}
+use native.Mathlib.Nat.{one-mul, add-mul, mod-lt, div-add-mod', mod-add-mod, add-mod_right, add-mul-mod_self_right, mul-add-mod_self_right}
 use native.Mathlib.Omega.{arith}
-use borrow.Author.Tests.{leb-true, leb-false, lt-ltb}
+use borrow.Author.Tests.{leb-true, leb-false, lt-ltb, le-ltb}
 use lib.Dec.{lit<, leb, ltb}
+use lib.Count.{count_leading_zeros}
+use Rattle.std.proofs.lemmas.Nat.{leading_length}
 use lib.Pow.{pow_pos, pow_mono, pow-add, shl_exact, shr_lt, mod-mod-pow}
 
 pub one_shl : (w : ℕ) → w ≤ 32 → (1 * 2 ^ w) % 2 ^ 64 ≡ 2 ^ w
@@ -47,13 +49,13 @@ not_down w x h b =
     let t : 2 ^ 32 - 1 - x ≡ s * P + (P - 1 - x % P) = omega (arith, div-add-mod' x P, mod-lt x (pow_pos w)) in
     ap (λ (n : ℕ). n % P) t ∙ mul-add-mod_self_right s P (P - 1 - x % P)
 
--- a number of 32 bits is below 2 ^ w by the bits that it has
-clip : (x w : ℕ) → x < 2 ^ 32 → (b : Bool) → leb w 32 ≡ b → ltb x (2 ^ min w 32) ≡ ltb x (2 ^ w)
-clip x w h true e = ap (λ n. ltb x (2 ^ n)) (min-eq_left (leb-true w 32 e))
-clip x w h false e =
-    let l : 32 < w = leb-false w 32 e in
-    let m : min w 32 ≡ 32 = min-eq_right {n = 32} {m = w} (omega arith) in
-    rw m (lt-ltb x (2 ^ 32) h ∙ sym (lt-ltb x (2 ^ w) (omega (arith, pow_mono {i = 32} {j = w} (omega arith)))))
+-- a number of m bits is below 2 ^ w just where m is w at most
+by_length : (x w m : ℕ) → x < 2 ^ m → 2 ^ m ≤ 2 * x + 1 → (b : Bool) → leb m w ≡ b → b ≡ ltb x (2 ^ w)
+by_length x w m f l true e = sym (lt-ltb x (2 ^ w) (omega (arith, f, pow_mono {i = m} {j = w} (leb-true m w e))))
+by_length x w m f l false e = sym (le-ltb x (2 ^ w) (omega (arith, l, pow-add 2 1 w, pow_mono {i = 1 + w} {j = m} (omega (arith, leb-false m w e)))))
 
-pub below_clipped : (x w : ℕ) → x < 2 ^ 32 → ltb x (2 ^ min w 32) ≡ ltb x (2 ^ w)
-below_clipped x w h = clip x w h (leb w 32) refl
+pub below_counted : (x w : ℕ) → x < 2 ^ 32 → leb (32 - count_leading_zeros 32 x) w ≡ ltb x (2 ^ w)
+below_counted x w h =
+    let (m, s, f, l) = leading_length 32 x h in
+    let e : 32 - count_leading_zeros 32 x ≡ m = omega (arith, s) in
+    rw e (by_length x w m f l (leb m w) refl)

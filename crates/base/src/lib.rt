@@ -51,9 +51,10 @@ pub fn least(x: usize, y: usize) -> usize
     x.min(y)
 }
 
-// Whether a value is below 2^w.
+// Whether a value is below 2^w: it has at most w bits. They are counted: a shift by `w.min(32)` was compiled to a branch on w where a cycle's inputs are tested, and
+// `cycles::step` took twice as long where widths come in no order.
 pub fn below(x: u32, w: u8) -> bool
     ensures { result ≡ ltb x (2 ^ w) }
 {
-    (x as u64) < (1u64 << w.min(32))
+    32 - x.leading_zeros() <= w as u32
 }

@@ -29,8 +29,8 @@ pub fn wrote_for_c(wrote: Result<usize, base::Verdict>) -> Wrote
     }
 }
 
-// Puts `from` into the image from byte `at` on; where it does not fit, nothing. Byte by byte: `copy_from_slice` from one lent struct to another calls `memmove`, a
-// name that the archive for C would need from outside beside `memcpy` and `memset`.
+// Puts `from` into the image from byte `at` on; where it does not fit, nothing. Byte by byte: `copy_from_slice` from a lent struct to the lent image calls `memmove`,
+// a name that the archive for C would need from outside beside `memcpy` and `memset`.
 pub fn put_bytes(image: &mut [u8], at: usize, from: &[u8])
     ensures { image.new ≡ placed image.old at from.now }
 {

@@ -8,6 +8,7 @@ use native.Mathlib.Omega.{arith}
 use borrow.Author.Tests.{lt-ltb, le-ltb, eqb-true, ltb-false, not-true, ne_eqb}
 use lib.Dec.{eqb, ltb}
 use lib.ListN.{length, get_or, take}
+use lib.Seq.{take-length}
 use mir.Val.{bool_byte}
 use Rattle.std.specs.List.{filter}
 use Rattle.std.proofs.lemmas.List.Filters.{length-filter_more}
@@ -49,6 +50,10 @@ drains-more t none xs i found more h e few m =
     byte : (b : Bool) → (bool_byte b ≡ cond b 1 0) × (bool_byte b ≤ 1)
     byte true = (refl, omega arith)
     byte false = (refl, omega arith)
+
+-- the end of the count: all entries are passed
+pub drains-whole : {A : Type 0} (t : A → Bool) (xs : List A) (i found : ℕ) → i ≡ length xs → found ≡ length (filter t (take i xs)) → found ≡ length (filter t xs)
+drains-whole t xs i found e h = h ∙ ap (λ n. length (filter t (take n xs))) e ∙ ap (λ ys. length (filter t ys)) (take-length xs)
 
 -- ---- whether an order is played
 

@@ -74,8 +74,7 @@ impl Played {
     }
 }
 
-// How many entries are drains. A sum and no `filter` with `count`, whose branch takes up to fifteen times as long on kinds in no order. Written in place, the check
-// doesn't find what it counts.
+// How many entries are drains. A sum and no `filter` with `count`, whose branch takes some ten times as long on kinds in no order.
 fn count_drains(kinds: &[u32]) -> usize
     ensures { result ≡ length (filter (λ kind. eqb kind 1) kinds.now) }
 {

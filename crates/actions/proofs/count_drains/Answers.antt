@@ -1,8 +1,6 @@
 -- `actions::count_drains` meets its contract. A turn counts one action.
-use Rattle.std.proofs.Common.{◌≡◌, eqb, length, take, ◌∙◌, ap, refl, arith}
-use lib.Seq.{take-length}
-use Rattle.std.specs.List.{filter}
-use Rattle.orders.proofs.Turns.{drains-more}
+use Rattle.std.proofs.Common.{eqb, refl, arith}
+use Rattle.orders.proofs.Turns.{drains-more, drains-whole}
 use Rattle.actions.proofs.count_drains.Goals as goal
 
 pub loop-a-init : goal.loop-a-init
@@ -16,6 +14,4 @@ loop-a-preserved c =
 pub returns : goal.returns
 returns c =
     let l = c.loop-a in
-    let xs = c.args.actions.now in
-    let e : l.a-index ≡ length xs = omega (arith, l.auto.a-index-end, c.loop-a-test.false) in
-    l.invariant.0 ∙ ap (λ n. length (filter (λ a. eqb a.kind 1) (take n xs))) e ∙ ap (λ ys. length (filter (λ a. eqb a.kind 1) ys)) (take-length xs)
+    drains-whole (λ a. eqb a.kind 1) c.args.actions.now l.a-index l.found (omega (arith, l.auto.a-index-end, c.loop-a-test.false)) l.invariant.0

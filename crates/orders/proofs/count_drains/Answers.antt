@@ -1,8 +1,6 @@
 -- `orders::count_drains` meets its contract. A turn counts one entry.
-use Rattle.std.proofs.Common.{◌≡◌, eqb, length, take, ◌∙◌, ap, refl, arith}
-use lib.Seq.{take-length}
-use Rattle.std.specs.List.{filter}
-use Rattle.orders.proofs.Turns.{drains-more}
+use Rattle.std.proofs.Common.{eqb, refl, arith}
+use Rattle.orders.proofs.Turns.{drains-more, drains-whole}
 use Rattle.orders.proofs.count_drains.Goals as goal
 
 pub loop-kind-init : goal.loop-kind-init
@@ -16,6 +14,4 @@ loop-kind-preserved c =
 pub returns : goal.returns
 returns c =
     let l = c.loop-kind in
-    let xs = c.args.kinds.now in
-    let e : l.kind-index ≡ length xs = omega (arith, l.auto.kind-index-end, c.loop-kind-test.false) in
-    l.invariant.0 ∙ ap (λ n. length (filter (λ kind. eqb kind 1) (take n xs))) e ∙ ap (λ ys. length (filter (λ kind. eqb kind 1) ys)) (take-length xs)
+    drains-whole (λ kind. eqb kind 1) c.args.kinds.now l.kind-index l.found (omega (arith, l.auto.kind-index-end, c.loop-kind-test.false)) l.invariant.0
